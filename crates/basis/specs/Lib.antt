@@ -1,0 +1,4 @@
+pub mod Faults
+pub mod Figures
+pub mod StraightLine
+pub mod Layers
