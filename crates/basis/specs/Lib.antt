@@ -2,3 +2,5 @@ pub mod Faults
 pub mod Figures
 pub mod StraightLine
 pub mod Layers
+pub mod Book
+pub mod Table

@@ -5,3 +5,8 @@ pub mod interface;
 pub mod straight_line;
 pub mod loading;
 pub mod shift;
+mod rows;
+mod book;
+mod book_reader;
+mod laws;
+pub mod table;

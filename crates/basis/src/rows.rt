@@ -1,0 +1,47 @@
+// The figures of a table basis as plain arrays, before anything is known of them.
+ghost use mathlib.Core.Path.{_≡_};
+ghost use Prim.Native.Nat.{_≤_};
+ghost use Rattle.basis.specs.Table.{rowOf, tabled};
+use crate::kind::Kind;
+
+// How many figures a row has room for: one for each age.
+pub const ROW: usize = 121;
+
+#[derive(Clone, Copy)]
+pub struct Rows {
+    pub final_age: u32,
+    pub invalidity: [u32; ROW],
+    pub active_death: [u32; ROW],
+    pub invalid_death: [u32; ROW],
+    pub population_death: [u32; ROW],
+    pub widow_death: [u32; ROW],
+    pub married: [u32; ROW],
+    pub spouse_age: [u32; ROW],
+}
+
+impl Rows {
+    pub fn row(&self, kind: Kind) -> &[u32; ROW]
+        ensures { λ r. ⌜ now r ≡ rowOf (now (self .entry)) kind ⌝ }
+    {
+        match kind {
+            Kind::Invalidity => &self.invalidity,
+            Kind::ActiveDeath => &self.active_death,
+            Kind::InvalidDeath => &self.invalid_death,
+            Kind::PopulationDeath => &self.population_death,
+            Kind::WidowDeath => &self.widow_death,
+            Kind::Married => &self.married,
+            Kind::SpouseAge => &self.spouse_age,
+        }
+    }
+
+    // The list's figure at an age, 0 at an age that the list has not.
+    pub fn figure(&self, kind: Kind, age: u32) -> u32
+        requires { ⌜ now self .«final_age» ≤ 80 ⌝ }
+        ensures { λ r. ⌜ r ≡ tabled (now (self .entry)) .figure kind age ⌝ }
+    {
+        if age >= kind.count(self.final_age) {
+            return 0;
+        }
+        self.row(kind)[age as usize]
+    }
+}
