@@ -5,3 +5,6 @@ pub mod Firsts
 pub mod Books
 pub mod Filled
 pub mod Lawfulness
+pub mod Placed
+pub mod Digits
+pub mod RoundTrips

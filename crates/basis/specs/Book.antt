@@ -1,11 +1,9 @@
 -- The table book: its layout, the figures that it tells, the bytes that tell figures, and what it is refused for. Assumes nothing.
 use mathlib.Core.List.{List, [], _∷_, _++_}
 use mathlib.Core.Bool.{Bool, not, _&&_, _||_}
-use Prim.Native.Nat.{ℕ, _+_, _-_, _*_, _/_, _%_}
+use Prim.Native.Nat.{ℕ, zero, suc, _+_, _-_, _*_, _/_, _%_}
 use lib.Dec.{ltb, leb, eqb}
-use lib.ListN.{length, getD, drop}
-use Rattle.std.specs.Iters.{counting}
-use Rattle.std.specs.Joined.{joined}
+use lib.ListN.{length, getD, take, drop}
 use Rattle.std.specs.declared.option.Option.{Option}
 use Rattle.basis.specs.declared.fault.Fault.{Fault}
 use Rattle.basis.specs.declared.fault.Refusal.the-variants.{Stub, Edition, FinalAge, Contents, Length, Figure, Exits, Seam, OpenEnd, Buffer}
@@ -66,15 +64,23 @@ decoded b = decodedBy (getD b 1 0) b
 abbrev pub entryBytes : ℕ → Kind → List ℕ
 entryBytes z k = rank k ∷ (bytes16 (count z k) ++ bytes16 (bodyPlace z k))
 
--- a list's figures from age 0 on, the first n of them
-abbrev pub figureBytes : Figures → Kind → ℕ → List ℕ
-figureBytes f k n = joined (λ x. bytes32 (f .figure k x)) (counting 0 n)
+-- texts 0, 1, .., n − 1, one after another
+unfoldable pub inOrder : ℕ → (ℕ → List ℕ) → List ℕ
+inOrder zero text = []
+inOrder (suc n) text = inOrder n text ++ text n
 
+abbrev pub contentsBytes : ℕ → List ℕ
+contentsBytes z = inOrder 7 (λ i. entryBytes z (kindAt i))
+
+-- a list's figures from age 0 on
 abbrev pub bodyBytes : Figures → Kind → List ℕ
-bodyBytes f k = figureBytes f k (count (f .finalAge) k)
+bodyBytes f k = inOrder (count (f .finalAge) k) (λ x. bytes32 (f .figure k x))
 
-unfoldable pub encoded : Figures → List ℕ
-encoded f = 1 ∷ f .finalAge ∷ (joined (entryBytes (f .finalAge)) kinds ++ joined (bodyBytes f) kinds)
+abbrev pub bodiesBytes : Figures → List ℕ
+bodiesBytes f = inOrder 7 (λ i. bodyBytes f (kindAt i))
+
+abbrev pub encoded : Figures → List ℕ
+encoded f = 1 ∷ f .finalAge ∷ (contentsBytes (f .finalAge) ++ bodiesBytes f)
 
 -- What a book is refused for. Before its figures are read:
 abbrev pub openingFault : List ℕ → Option Fault
@@ -140,6 +146,10 @@ bookFault b =
 -- writing is refused if the buffer is shorter than the book
 abbrev pub bufferFault : ℕ → List ℕ → Option Fault
 bufferFault z buffer = refuseIf (ltb (length buffer) (bookLength z)) (fault Buffer 0 0)
+
+-- a buffer with bytes put in at a place
+abbrev pub placed : List ℕ → ℕ → List ℕ → List ℕ
+placed buffer p bytes = take p buffer ++ (bytes ++ drop (p + length bytes) buffer)
 
 -- a buffer with a figures' book in its first bytes, the rest as it was
 abbrev pub written : Figures → List ℕ → List ℕ

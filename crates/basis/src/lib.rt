@@ -10,3 +10,4 @@ mod book;
 mod book_reader;
 mod laws;
 pub mod table;
+mod book_writer;
