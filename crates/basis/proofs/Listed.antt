@@ -1,13 +1,17 @@
 -- Figures told by a rule within the lists' ages are lawful if the rule is. Assumes nothing.
-use mathlib.Core.Path.{_≡_, refl, ap, sym, _∙_}
+use mathlib.Core.Path.{_≡_, refl, ap, sym, _∙_, fun-ext}
 use mathlib.Core.Bool.{true, false, cond}
+use mathlib.Core.Logic.{⊎-elim}
 use Prim.Native.Nat.{ℕ, _+_, _≤_, _<_}
 use native.Mathlib.Omega.{arith}
 use lib.Dec.{ltb}
-use Rattle.std.proofs.shelf.Tests.{cond-both, cond-true, cond-false, lt-ltb, le-ltb, ltb-true, ltb-false}
+use lib.ListN.{getD}
+use Rattle.std.proofs.shelf.Tests.{cond-both, cond-true, cond-false, lt-ltb, le-ltb, ltb-true, ltb-false, cases-lt}
 use Rattle.basis.specs.declared.kind.Kind.{Kind}
 use Rattle.basis.specs.declared.kind.Kind.the-variants.{Invalidity, ActiveDeath, InvalidDeath, PopulationDeath, WidowDeath, Married, SpouseAge}
-use Rattle.basis.specs.Figures.{Figures, Lawful, Aged, listed, count, limit}
+use Rattle.basis.specs.declared.rows.Rows.{Rows}
+use Rattle.basis.specs.Table.{rowOf, tabled}
+use Rattle.basis.specs.Figures.{Figures, Lawful, Ended, listed, count, limit}
 
 -- a list that has the age tells the rule's figure
 pub listed-inside : (z : ℕ) (told : Kind → ℕ → ℕ) (k : Kind) (x : ℕ) → x < count z k → listed z told .figure k x ≡ told k x
@@ -16,6 +20,17 @@ listed-inside z told k x h = cond-true (ltb x (count z k)) (told k x) 0 (lt-ltb 
 -- one that has it not tells 0
 pub listed-outside : (z : ℕ) (told : Kind → ℕ → ℕ) (k : Kind) (x : ℕ) → count z k ≤ x → listed z told .figure k x ≡ 0
 listed-outside z told k x h = cond-false (ltb x (count z k)) (told k x) 0 (le-ltb x (count z k) h)
+
+abbrev made : ℕ → (Kind → ℕ → ℕ) → Figures
+made z told = record { finalAge = z; figure = told }
+
+-- a rule that tells the figures of every list tells the figures
+pub listed-is : (f : Figures) (told : Kind → ℕ → ℕ) → Ended f → ((k : Kind) (x : ℕ) → x < count (f .finalAge) k → told k x ≡ f .figure k x) → listed (f .finalAge) told ≡ f
+listed-is f told ended each =
+    ap (made (f .finalAge)) (fun-ext (λ k. fun-ext (λ x.
+      ⊎-elim (λ l. listed-inside (f .finalAge) told k x l ∙ each k x l)
+      (λ l. listed-outside (f .finalAge) told k x l ∙ sym (ended k x l))
+      (cases-lt x (count (f .finalAge) k)))))
 
 -- no list goes past the last age
 pub count-most : (z : ℕ) (k : Kind) → z ≤ 80 → count z k ≤ 121
@@ -59,3 +74,9 @@ listed-lawful z told r = record {
     (λ e. rw e (r .seamless x h (ltb-true x 121 e))) (λ e. rw e refl);
   closed = (r .invalid-end, r .population-end, r .widow-end);
 }
+
+-- rows that hold the figures of every list stand for the figures
+pub tabled-is : (f : Figures) → Lawful f → (r : Rows) → r .«final_age» ≡ f .finalAge → ((k : Kind) (x : ℕ) → x < 121 → getD (rowOf r k) x 0 ≡ f .figure k x) → tabled r ≡ f
+tabled-is f lawful r aged each =
+    ap (λ z. listed z (λ k x. getD (rowOf r k) x 0)) aged
+    ∙ listed-is f (λ k x. getD (rowOf r k) x 0) (lawful .ended) (λ k x l. each k x (omega (arith, count-most (f .finalAge) k (lawful .aged .1))))

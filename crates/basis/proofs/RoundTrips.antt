@@ -1,5 +1,5 @@
 -- A book read and written out is the same bytes; figures written out and read are the same figures. Assumes nothing.
-use mathlib.Core.Path.{_≡_, refl, ap, sym, _∙_, fun-ext}
+use mathlib.Core.Path.{_≡_, refl, ap, sym, _∙_}
 use mathlib.Core.Bool.{Bool, true, false, not, cond, _&&_, _||_}
 use mathlib.Core.List.{List, [], _∷_, _++_}
 use mathlib.Core.Logic.{⊎-elim}
@@ -8,18 +8,23 @@ use native.Mathlib.Omega.{arith}
 use lib.Dec.{ltb, eqb}
 use lib.ListN.{length, take, drop, getD}
 use lib.Seq.{take-add}
+use Rattle.std.specs.Vec.{refused}
 use Rattle.std.specs.declared.option.Option.the-variants.{None}
+use Rattle.std.specs.declared.result.Result.{Result}
+use Rattle.std.specs.declared.result.Result.the-variants.{Ok, Err}
 use Rattle.std.proofs.shelf.Lists.{append-nil, length-append, length-take-le, length-drop, take-at, drop-at, drop-drop, take-all, drop-more, getD-take, getD-drop}
 use Rattle.std.proofs.shelf.Tests.{cases-lt, cond-true, cond-false, lt-ltb, le-ltb, eqb-true, eq-eqb, and-parts, and-from, not-false, not-from-true, or-from, le-ltb}
+use Rattle.basis.specs.declared.fault.Fault.{Fault}
 use Rattle.basis.specs.declared.kind.Kind.{Kind}
+use Rattle.basis.specs.Faults.{Outcome}
 use Rattle.basis.specs.Figures.{Figures, Lawful, listed, count, limit, rank}
-use Rattle.basis.specs.Book.{be16, be32, bytes16, bytes32, kindAt, entryPlace, entryBytes, bodyPlace, bookLength, inOrder, contentsBytes, bodyBytes, bodiesBytes, encoded, decoded, decodedBy, entryRight, entryFault, openingFault, contentsFault, lengthFault, bookFault, figuresFault}
+use Rattle.basis.specs.Book.{be16, be32, bytes16, bytes32, kindAt, entryPlace, entryBytes, bodyPlace, bookLength, inOrder, contentsBytes, bodyBytes, bodiesBytes, encoded, decoded, decodedBy, entryRight, entryFault, openingFault, contentsFault, lengthFault, bookFault, figuresFault, bufferFault, rewriteFault, written}
 use Rattle.basis.proofs.Books.{body-within}
 use Rattle.basis.proofs.Digits.{digits16, digits32, whole16, whole32}
 use Rattle.basis.proofs.Firsts.{first-of-none, first-passes, first-passed, refuse-none, none-refuse, passed-on}
 use Rattle.basis.proofs.Lawfulness.{each-kind, lawful-passes, opening-passed}
 use Rattle.basis.proofs.Layered.{million}
-use Rattle.basis.proofs.Listed.{listed-inside, listed-outside, count-most}
+use Rattle.basis.proofs.Listed.{listed-inside, listed-is, count-most}
 use Rattle.basis.proofs.Placed.{seven, next-body, entry-place, entry-within, length-body, length-order, length-contents, length-bodies, length-encoded}
 
 -- n bytes of a book, from a place on
@@ -228,16 +233,8 @@ figure-at f lawful k x l =
       ∙ ap (λ q. piece (p + q) 4 (encoded f)) (total-same 4 x) in
     write32 (encoded f) (p + 4 * x) (f .figure k x) (omega (arith, million f lawful k x)) here
 
-abbrev made : ℕ → (Kind → ℕ → ℕ) → Figures
-made z told = record { finalAge = z; figure = told }
-
 pub decoded-encoded : (f : Figures) → Lawful f → decoded (encoded f) ≡ f
-decoded-encoded f lawful =
-    let told : Kind → ℕ → ℕ = λ k x. be32 (encoded f) (bodyPlace (f .finalAge) k + 4 * x) in
-    ap (made (f .finalAge)) (fun-ext (λ k. fun-ext (λ x.
-      ⊎-elim (λ l. listed-inside (f .finalAge) told k x l ∙ figure-at f lawful k x l)
-      (λ l. listed-outside (f .finalAge) told k x l ∙ sym (lawful .ended k x l))
-      (cases-lt x (count (f .finalAge) k)))))
+decoded-encoded f lawful = listed-is f (λ k x. be32 (encoded f) (bodyPlace (f .finalAge) k + 4 * x)) (lawful .ended) (figure-at f lawful)
 
 pub encoded-passes : (f : Figures) → Lawful f → bookFault (encoded f) ≡ None
 encoded-passes f lawful =
@@ -249,3 +246,26 @@ encoded-passes f lawful =
     let contents : contentsFault (encoded f) z ≡ None = first-passed 7 (λ i. entryFault (encoded f) z (kindAt i)) (λ i l. none-refuse _ _ (not-from-true _ (entry-right f i (lawful .aged .1) l))) in
     let measured : lengthFault (encoded f) z ≡ None = none-refuse _ _ (not-from-true _ (eq-eqb _ _ long)) in
     passed-on _ _ opening ∙ passed-on _ _ contents ∙ passed-on _ _ measured ∙ ap figuresFault (decoded-encoded f lawful) ∙ lawful-passes f lawful
+
+-- The two calls that go round.
+pub rewritten : (r : Result ℕ Fault) (b buffer after : List ℕ) (f : Figures) → ((i : ℕ) → getD b i 0 < 256) → bookFault b ≡ None → f ≡ decoded b
+  → Outcome r (bufferFault (f .finalAge) buffer) (λ n. (n ≡ bookLength (f .finalAge)) × (after ≡ written f buffer))
+  → Outcome r (rewriteFault b buffer) (λ n. (n ≡ length b) × (after ≡ b ++ drop n buffer))
+rewritten (Ok n) b buffer after f small none told answer =
+    let same : encoded f ≡ b = ap encoded told ∙ encoded-decoded b small none in
+    let long : n ≡ length b = answer .1 .0 ∙ sym (length-encoded f) ∙ ap length same in
+    (passed-on _ _ none ∙ ap (λ g. bufferFault (g .finalAge) buffer) (sym told) ∙ answer .0,
+     (long, answer .1 .1 ∙ ap (λ xs. xs ++ drop (bookLength (f .finalAge)) buffer) same ∙ ap (λ m. b ++ drop m buffer) (sym (answer .1 .0))))
+rewritten (Err e) b buffer after f small none told answer = passed-on _ _ none ∙ ap (λ g. bufferFault (g .finalAge) buffer) (sym told) ∙ answer
+
+pub reread : {X : Type 0} (told : X → Figures) (r : Result X Fault) (f : Figures) (buffer after part : List ℕ) (n : ℕ) → Lawful f → bufferFault (f .finalAge) buffer ≡ None → n ≡ bookLength (f .finalAge) → after ≡ written f buffer → part ≡ take n after
+  → Outcome r (bookFault part) (λ t. told t ≡ decoded part)
+  → Outcome r (bufferFault (f .finalAge) buffer) (λ t. (told t ≡ f) × (after ≡ written f buffer)) × refused r (λ _. after ≡ buffer)
+reread told (Ok t) f buffer after part n lawful room long filled cut answer =
+    let same : part ≡ encoded f = cut ∙ ap (take n) filled ∙ take-at (encoded f) (drop (bookLength (f .finalAge)) buffer) n (length-encoded f ∙ sym long) in
+    ((room, (answer .1 ∙ ap decoded same ∙ decoded-encoded f lawful, filled)), tt)
+reread told (Err e) f buffer after part n lawful room long filled cut answer =
+    let same : part ≡ encoded f = cut ∙ ap (take n) filled ∙ take-at (encoded f) (drop (bookLength (f .finalAge)) buffer) n (length-encoded f ∙ sym long) in
+    let none : bookFault part ≡ None = ap bookFault same ∙ encoded-passes f lawful in
+    let z : _≡_ {A = ℕ} 0 1 = cc in
+    absurd (omega arith)

@@ -147,6 +147,10 @@ bookFault b =
 abbrev pub bufferFault : ℕ → List ℕ → Option Fault
 bufferFault z buffer = refuseIf (ltb (length buffer) (bookLength z)) (fault Buffer 0 0)
 
+-- reading a book and writing it out
+abbrev pub rewriteFault : List ℕ → List ℕ → Option Fault
+rewriteFault b buffer = firstOf (bookFault b) (bufferFault (getD b 1 0) buffer)
+
 -- a buffer with bytes put in at a place
 abbrev pub placed : List ℕ → ℕ → List ℕ → List ℕ
 placed buffer p bytes = take p buffer ++ (bytes ++ drop (p + length bytes) buffer)

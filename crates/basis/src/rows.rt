@@ -1,7 +1,10 @@
 // The figures of a table basis as plain arrays, before anything is known of them.
 ghost use mathlib.Core.Path.{_≡_};
-ghost use Prim.Native.Nat.{_≤_};
+ghost use Prim.Native.Nat.{ℕ, _≤_, _<_};
+ghost use lib.ListN.{getD};
 ghost use Rattle.basis.specs.Table.{rowOf, tabled};
+use crate::interface::Basis;
+use crate::kind::AGES;
 use crate::kind::Kind;
 
 // How many figures a row has room for: one for each age.
@@ -20,6 +23,22 @@ pub struct Rows {
 }
 
 impl Rows {
+    // The figures of any basis.
+    pub fn of<B: Basis>(basis: &B) -> Rows
+        ensures { λ r. ⌜ tabled r ≡ figures (now (basis .entry)) ⌝ }
+    {
+        Rows {
+            final_age: basis.final_age(),
+            invalidity: row_of(basis, Kind::Invalidity),
+            active_death: row_of(basis, Kind::ActiveDeath),
+            invalid_death: row_of(basis, Kind::InvalidDeath),
+            population_death: row_of(basis, Kind::PopulationDeath),
+            widow_death: row_of(basis, Kind::WidowDeath),
+            married: row_of(basis, Kind::Married),
+            spouse_age: row_of(basis, Kind::SpouseAge),
+        }
+    }
+
     pub fn row(&self, kind: Kind) -> &[u32; ROW]
         ensures { λ r. ⌜ now r ≡ rowOf (now (self .entry)) kind ⌝ }
     {
@@ -44,4 +63,15 @@ impl Rows {
         }
         self.row(kind)[age as usize]
     }
+}
+
+// A list of a basis, from age 0 to the last.
+fn row_of<B: Basis>(basis: &B, kind: Kind) -> [u32; ROW]
+    ensures { λ r. ⌜ ((x : ℕ) → x < 121 → getD r x 0 ≡ figures (now (basis .entry)) .figure kind x) ⌝ }
+{
+    let mut row = [0; ROW];
+    for age in 0..AGES {
+        row[age as usize] = basis.figure(kind, age);
+    }
+    row
 }
