@@ -13,6 +13,7 @@ pub filled-none : (f : ℕ → ℕ) (row : List ℕ) → length row ≡ 121 → 
 filled-none f row long = (long, λ x l. absurd (omega arith))
 
 pub filled-more : (f : ℕ → ℕ) (row : List ℕ) (n v : ℕ) → n < 121 → v ≡ f n → Filled f row n → Filled f (set row n v) (n + 1)
-filled-more f row n v l here filled =
-    (length-set row n v ∙ filled .0,
-     subst (λ w. (x : ℕ) → x < n + 1 → getD (set row n w) x 0 ≡ f x) (sym here) (fill-by-more f row n 0 (omega (arith, filled .0)) (filled .1)))
+filled-more f row n v l here filled = (
+  length-set row n v ∙ filled .0,
+  subst (λ w. (x : ℕ) → x < n + 1 → getD (set row n w) x 0 ≡ f x) (sym here) (fill-by-more f row n 0 (omega (arith, filled .0)) (filled .1)),
+)

@@ -11,10 +11,10 @@ use Rattle.std.specs.declared.option.Option.the-variants.{Some, None}
 use Rattle.std.proofs.shelf.Tests.{ltb-false, le-ltb, le-leb, lt-leb, eqb-true, eq-eqb, and-cases, and-left, and-right, not-false, not-from-true, or-parts, cases-lt, both-ways}
 use Rattle.basis.specs.declared.kind.Kind.{Kind}
 use Rattle.basis.specs.declared.kind.Kind.the-variants.{Invalidity, ActiveDeath, InvalidDeath, PopulationDeath, WidowDeath, Married, SpouseAge}
-use Rattle.basis.specs.Faults.{firstOf}
+use Rattle.fault.specs.Faults.{firstOf}
 use Rattle.basis.specs.Figures.{Figures, Lawful, Ended, Limited, Exits, Seamless, Closed, count, limit, rank}
 use Rattle.basis.specs.Book.{kindAt, openingFault, contentsFault, lengthFault, bookFault, figuresFault, limitFault, listFault, limitFaultAt, exitsFault, exitsFaultAt, seamFault, seamFaultAt, openEndFault, decoded, decodedBy}
-use Rattle.basis.proofs.Firsts.{first-passes, first-passed, first-of-none, refuse-none, none-refuse, passed-on}
+use Rattle.fault.proofs.Firsts.{first-passes, first-passed, first-of-none, refuse-none, none-refuse, passed-on}
 
 -- what is checked at each place of the kinds' order is checked of each kind
 pub each-kind : (P : Kind → Type 0) → ((i : ℕ) → i < 7 → P (kindAt i)) → (k : Kind) → P k
@@ -42,9 +42,9 @@ exits f ended none x =
 seamless : (f : Figures) → Ended f → seamFault f ≡ None → Seamless f
 seamless f ended none x from =
     ⊎-elim (λ l.
-      ⊎-elim (λ e. absurd (both-ways (leb (f .finalAge) x) e (le-leb _ _ from)))
-      (λ e. eqb-true _ _ (not-false _ e))
-      (and-cases (leb (f .finalAge) x) (not (eqb (f .figure InvalidDeath x) (f .figure PopulationDeath x))) (refuse-none _ _ (first-passes 121 (seamFaultAt f) none x l))))
+    ⊎-elim (λ e. absurd (both-ways (leb (f .finalAge) x) e (le-leb _ _ from)))
+    (λ e. eqb-true _ _ (not-false _ e))
+    (and-cases (leb (f .finalAge) x) (not (eqb (f .figure InvalidDeath x) (f .figure PopulationDeath x))) (refuse-none _ _ (first-passes 121 (seamFaultAt f) none x l))))
     (λ l. ended InvalidDeath x l ∙ sym (ended PopulationDeath x l))
     (cases-lt x 121)
 
@@ -68,7 +68,7 @@ lawful-passes f lawful =
     let limited : limitFault f ≡ None = first-passed 7 (λ i. listFault f (kindAt i)) (λ i l. first-passed _ _ (λ x m. none-refuse _ _ (le-ltb _ _ (lawful .limited (kindAt i) x)))) in
     let leaving : exitsFault f ≡ None = first-passed (f .finalAge) (exitsFaultAt f) (λ x l. none-refuse _ _ (le-ltb _ _ (lawful .exits x))) in
     let seam : seamFault f ≡ None = first-passed 121 (seamFaultAt f) (λ x l. none-refuse _ _
-      (⊎-elim (λ below. and-left _ _ (lt-leb _ _ below)) (λ from. and-right _ _ (not-from-true _ (eq-eqb _ _ (lawful .seamless x from)))) (cases-lt x (f .finalAge)))) in
+    (⊎-elim (λ below. and-left _ _ (lt-leb _ _ below)) (λ from. and-right _ _ (not-from-true _ (eq-eqb _ _ (lawful .seamless x from)))) (cases-lt x (f .finalAge)))) in
     let ends : openEndFault f ≡ None = passed-on _ _ (none-refuse _ _ (not-from-true _ (eq-eqb _ _ (lawful .closed .0)))) ∙ none-refuse _ _ (not-from-true _ (eq-eqb _ _ (lawful .closed .2))) in
     passed-on _ _ limited ∙ passed-on _ _ leaving ∙ passed-on _ _ seam ∙ ends
 

@@ -29,8 +29,8 @@ moved-from : (z : ℕ) (s : ℤ) (x : ℕ) → z ≤ 80 → z ≤ x → z ≤ mo
 moved-from z s x small h = cond-both (eqb x 120) 120 (cond (ltb x z) (brought 0 (z - 1) (pos x +ℤ s)) (brought z 120 (pos x +ℤ s))) (λ n. z ≤ n)
     (λ e. omega arith)
     (λ e. cond-both (ltb x z) (brought 0 (z - 1) (pos x +ℤ s)) (brought z 120 (pos x +ℤ s)) (λ n. z ≤ n)
-      (λ t. let l : x < z = ltb-true x z t in omega arith)
-      (λ t. brought-low z 120 (pos x +ℤ s)))
+    (λ t. let l : x < z = ltb-true x z t in omega arith)
+    (λ t. brought-low z 120 (pos x +ℤ s)))
 
 shifted-limited : (f : Figures) → Lawful f → (s : ℤ) (k : Kind) (x : ℕ) → x < count (f .finalAge) k → f .figure k (readAge (f .finalAge) s k x) ≤ limit k
 shifted-limited f lawful s k x l = lawful .limited k (readAge (f .finalAge) s k x)

@@ -28,9 +28,9 @@ made z told = record { finalAge = z; figure = told }
 pub listed-is : (f : Figures) (told : Kind → ℕ → ℕ) → Ended f → ((k : Kind) (x : ℕ) → x < count (f .finalAge) k → told k x ≡ f .figure k x) → listed (f .finalAge) told ≡ f
 listed-is f told ended each =
     ap (made (f .finalAge)) (fun-ext (λ k. fun-ext (λ x.
-      ⊎-elim (λ l. listed-inside (f .finalAge) told k x l ∙ each k x l)
-      (λ l. listed-outside (f .finalAge) told k x l ∙ sym (ended k x l))
-      (cases-lt x (count (f .finalAge) k)))))
+    ⊎-elim (λ l. listed-inside (f .finalAge) told k x l ∙ each k x l)
+    (λ l. listed-outside (f .finalAge) told k x l ∙ sym (ended k x l))
+    (cases-lt x (count (f .finalAge) k)))))
 
 -- no list goes past the last age
 pub count-most : (z : ℕ) (k : Kind) → z ≤ 80 → count z k ≤ 121
@@ -69,9 +69,9 @@ listed-lawful z told r = record {
   limited = λ k x. cond-both (ltb x (count z k)) (told k x) 0 (λ n. n ≤ limit k) (λ e. r .limited k x (ltb-true x (count z k) e)) (λ e. omega arith);
   ended = λ k x h. listed-outside z told k x h;
   exits = λ x. cond-both (ltb x z) (told Invalidity x) 0 (λ n. n + cond (ltb x z) (told ActiveDeath x) 0 ≤ 1000000)
-    (λ e. rw e (r .exits x (ltb-true x z e))) (λ e. rw e (omega arith));
+      (λ e. rw e (r .exits x (ltb-true x z e))) (λ e. rw e (omega arith));
   seamless = λ x h. cond-both (ltb x 121) (told InvalidDeath x) 0 (λ n. n ≡ cond (ltb x 121) (told PopulationDeath x) 0)
-    (λ e. rw e (r .seamless x h (ltb-true x 121 e))) (λ e. rw e refl);
+      (λ e. rw e (r .seamless x h (ltb-true x 121 e))) (λ e. rw e refl);
   closed = (r .invalid-end, r .population-end, r .widow-end);
 }
 

@@ -33,8 +33,8 @@ placed-more buffer p bytes more q next fits =
     let whole : placed buffer p bytes ≡ (front ++ bytes) ++ rest = sym (append-assoc front bytes rest) in
     let before : take q (placed buffer p bytes) ≡ front ++ bytes = ap (take q) whole ∙ take-at (front ++ bytes) rest q at in
     let behind : drop (q + length more) (placed buffer p bytes) ≡ drop (p + length (bytes ++ more)) buffer =
-      sym (drop-drop (length more) q (placed buffer p bytes)) ∙ ap (λ xs. drop (length more) (drop q xs)) whole ∙ ap (drop (length more)) (drop-at (front ++ bytes) rest q at)
-      ∙ drop-drop (length more) (p + length bytes) buffer ∙ ap (λ m. drop m buffer) (omega (arith, length-append bytes more)) in
+    sym (drop-drop (length more) q (placed buffer p bytes)) ∙ ap (λ xs. drop (length more) (drop q xs)) whole ∙ ap (drop (length more)) (drop-at (front ++ bytes) rest q at)
+    ∙ drop-drop (length more) (p + length bytes) buffer ∙ ap (λ m. drop m buffer) (omega (arith, length-append bytes more)) in
     ap (λ xs. xs ++ (more ++ drop (q + length more) (placed buffer p bytes))) before
     ∙ ap (λ xs. (front ++ bytes) ++ (more ++ xs)) behind
     ∙ append-assoc front bytes (more ++ drop (p + length (bytes ++ more)) buffer)
@@ -82,12 +82,12 @@ length-body f k = length-order (count (f .finalAge) k) 4 (λ x. bytes32 (f .figu
 
 -- an entry's three parts, placed one after another
 pub placed-entry : (b b1 b2 b3 : List ℕ) (z : ℕ) (k : Kind) (p r n m : ℕ) (counted told : List ℕ) → p ≡ entryPlace k → r ≡ rank k → counted ≡ bytes16 n → n ≡ count z k → told ≡ bytes16 m → m ≡ bodyPlace z k
-  → b1 ≡ placed b p (r ∷ []) → b2 ≡ placed b1 (p + 1) counted → b3 ≡ placed b2 (p + 3) told → p + 5 ≤ length b → b3 ≡ placed b (entryPlace k) (entryBytes z k)
+    → b1 ≡ placed b p (r ∷ []) → b2 ≡ placed b1 (p + 1) counted → b3 ≡ placed b2 (p + 3) told → p + 5 ≤ length b → b3 ≡ placed b (entryPlace k) (entryBytes z k)
 placed-entry b b1 b2 b3 z k p r n m counted told ep er ec en et em first second third fits =
     let two : b2 ≡ placed b p (r ∷ counted) = second ∙ ap (λ xs. placed xs (p + 1) counted) first ∙ placed-more b p (r ∷ []) counted (p + 1) refl (omega arith) in
     let three : b3 ≡ placed b p ((r ∷ counted) ++ told) = third ∙ ap (λ xs. placed xs (p + 3) told) two ∙ placed-more b p (r ∷ counted) told (p + 3) (omega (arith, ap length ec)) (omega arith) in
     let bytes : (r ∷ counted) ++ told ≡ entryBytes z k =
-      ap (λ x. (x ∷ counted) ++ told) er ∙ ap (λ x. (rank k ∷ x) ++ told) (ec ∙ ap bytes16 en) ∙ ap (λ x. (rank k ∷ bytes16 (count z k)) ++ x) (et ∙ ap bytes16 em) in
+    ap (λ x. (x ∷ counted) ++ told) er ∙ ap (λ x. (rank k ∷ x) ++ told) (ec ∙ ap bytes16 en) ∙ ap (λ x. (rank k ∷ bytes16 (count z k)) ++ x) (et ∙ ap bytes16 em) in
     three ∙ ap (placed b p) bytes ∙ ap (λ q. placed b q (entryBytes z k)) ep
 
 pub entry-within : (k : Kind) → entryPlace k + 5 ≤ 37
@@ -130,6 +130,6 @@ placed-book b b1 b2 b3 f z ez fits first second third =
     let opening = 1 ∷ z ∷ [] in
     let two : b2 ≡ placed b 0 (opening ++ contentsBytes z) = second ∙ ap (λ xs. placed xs 2 (contentsBytes z)) first ∙ placed-more b 0 opening (contentsBytes z) 2 refl (omega arith) in
     let three : b3 ≡ placed b 0 ((opening ++ contentsBytes z) ++ bodiesBytes f) =
-      third ∙ ap (λ xs. placed xs 37 (bodiesBytes f)) two ∙ placed-more b 0 (opening ++ contentsBytes z) (bodiesBytes f) 37 (omega (arith, length-append opening (contentsBytes z), length-contents z 7)) (omega arith) in
+    third ∙ ap (λ xs. placed xs 37 (bodiesBytes f)) two ∙ placed-more b 0 (opening ++ contentsBytes z) (bodiesBytes f) 37 (omega (arith, length-append opening (contentsBytes z), length-contents z 7)) (omega arith) in
     let bytes : (opening ++ contentsBytes z) ++ bodiesBytes f ≡ encoded f = ap (λ y. ((1 ∷ y ∷ []) ++ contentsBytes y) ++ bodiesBytes f) ez in
     three ∙ ap (placed b 0) bytes ∙ ap (λ n. encoded f ++ drop n b) (omega (arith, length-encoded f))

@@ -14,14 +14,14 @@ use Rattle.std.specs.declared.result.Result.{Result}
 use Rattle.std.specs.declared.result.Result.the-variants.{Ok, Err}
 use Rattle.std.proofs.shelf.Lists.{append-nil, length-append, length-take-le, length-drop, take-at, drop-at, drop-drop, take-all, drop-more, getD-take, getD-drop}
 use Rattle.std.proofs.shelf.Tests.{cases-lt, cond-true, cond-false, lt-ltb, le-ltb, eqb-true, eq-eqb, and-parts, and-from, not-false, not-from-true, or-from, le-ltb}
-use Rattle.basis.specs.declared.fault.Fault.{Fault}
+use Rattle.fault.specs.declared.Fault.{Fault}
 use Rattle.basis.specs.declared.kind.Kind.{Kind}
-use Rattle.basis.specs.Faults.{Outcome}
+use Rattle.fault.specs.Faults.{Outcome}
 use Rattle.basis.specs.Figures.{Figures, Lawful, listed, count, limit, rank}
 use Rattle.basis.specs.Book.{be16, be32, bytes16, bytes32, kindAt, entryPlace, entryBytes, bodyPlace, bookLength, inOrder, contentsBytes, bodyBytes, bodiesBytes, encoded, decoded, decodedBy, entryRight, entryFault, openingFault, contentsFault, lengthFault, bookFault, figuresFault, bufferFault, rewriteFault, written}
 use Rattle.basis.proofs.Books.{body-within}
 use Rattle.basis.proofs.Digits.{digits16, digits32, whole16, whole32}
-use Rattle.basis.proofs.Firsts.{first-of-none, first-passes, first-passed, refuse-none, none-refuse, passed-on}
+use Rattle.fault.proofs.Firsts.{first-of-none, first-passes, first-passed, refuse-none, none-refuse, passed-on}
 use Rattle.basis.proofs.Lawfulness.{each-kind, lawful-passes, opening-passed}
 use Rattle.basis.proofs.Layered.{million}
 use Rattle.basis.proofs.Listed.{listed-inside, listed-is, count-most}
@@ -61,9 +61,10 @@ from-pieces b text size p (suc n) each =
 
 -- two joins with fronts of one length are equal in both parts
 same-parts : (xs us ys vs : List ℕ) → length xs ≡ length us → xs ++ ys ≡ us ++ vs → (xs ≡ us) × (ys ≡ vs)
-same-parts xs us ys vs long e =
-    (sym (take-at xs ys (length xs) refl) ∙ ap (take (length xs)) e ∙ take-at us vs (length xs) (sym long),
-     sym (drop-at xs ys (length xs) refl) ∙ ap (drop (length xs)) e ∙ drop-at us vs (length xs) (sym long))
+same-parts xs us ys vs long e = (
+  sym (take-at xs ys (length xs) refl) ∙ ap (take (length xs)) e ∙ take-at us vs (length xs) (sym long),
+  sym (drop-at xs ys (length xs) refl) ∙ ap (drop (length xs)) e ∙ drop-at us vs (length xs) (sym long),
+)
 
 total-length : (text : ℕ → List ℕ) (size : ℕ → ℕ) (n : ℕ) → ((k : ℕ) → length (text k) ≡ size k) → length (inOrder n text) ≡ total size n
 unfolding total inOrder
@@ -129,9 +130,9 @@ entry-piece b z k small fits right =
 body-piece : (b : List ℕ) (z : ℕ) (k : Kind) → ((i : ℕ) → getD b i 0 < 256) → bookLength z ≤ length b → bodyBytes (decodedBy z b) k ≡ piece (bodyPlace z k) (4 * count z k) b
 body-piece b z k small fits =
     from-pieces b (λ x. bytes32 (decodedBy z b .figure k x)) (λ _. 4) (bodyPlace z k) (count z k)
-      (λ x l. ap bytes32 (listed-inside z (λ j y. be32 b (bodyPlace z j + 4 * y)) k x l)
-        ∙ read32 b (bodyPlace z k + 4 * x) small (omega (arith, body-within z k))
-        ∙ ap (λ q. piece (bodyPlace z k + q) 4 b) (sym (total-same 4 x)))
+    (λ x l. ap bytes32 (listed-inside z (λ j y. be32 b (bodyPlace z j + 4 * y)) k x l)
+    ∙ read32 b (bodyPlace z k + 4 * x) small (omega (arith, body-within z k))
+    ∙ ap (λ q. piece (bodyPlace z k + q) 4 b) (sym (total-same 4 x)))
     ∙ ap (λ n. piece (bodyPlace z k) n b) (total-same 4 (count z k))
 
 -- what a book has that passes its checks
@@ -158,15 +159,15 @@ encoded-decoded b small none =
     let z = getD b 1 0 in
     let right : Passed b = passed b none in
     let contents : contentsBytes z ≡ piece 2 35 b =
-      from-pieces b (λ i. entryBytes z (kindAt i)) (λ _. 5) 2 7
-        (λ i l. entry-piece b z (kindAt i) small (omega arith) (right .entries i l) ∙ ap (λ q. piece q 5 b) (omega (arith, entry-place i l, total-same 5 i)))
-      ∙ ap (λ n. piece 2 n b) (total-same 5 7) in
+    from-pieces b (λ i. entryBytes z (kindAt i)) (λ _. 5) 2 7
+    (λ i l. entry-piece b z (kindAt i) small (omega arith) (right .entries i l) ∙ ap (λ q. piece q 5 b) (omega (arith, entry-place i l, total-same 5 i)))
+    ∙ ap (λ n. piece 2 n b) (total-same 5 7) in
     let sizes : ℕ → ℕ = λ j. 4 * count z (kindAt j) in
     let bodies : bodiesBytes (decoded b) ≡ piece 37 (total sizes 7) b =
-      from-pieces b (λ i. bodyBytes (decoded b) (kindAt i)) sizes 37 7
-        (λ i l. body-piece b z (kindAt i) small (omega arith) ∙ ap (λ q. piece q (sizes i) b) (sym (body-total z i l))) in
+    from-pieces b (λ i. bodyBytes (decoded b) (kindAt i)) sizes 37 7
+    (λ i l. body-piece b z (kindAt i) small (omega arith) ∙ ap (λ q. piece q (sizes i) b) (sym (body-total z i l))) in
     let rest : piece 2 35 b ++ piece 37 (total sizes 7) b ≡ drop 2 b =
-      sym (piece-join 2 35 (total sizes 7) b) ∙ take-all (35 + total sizes 7) (drop 2 b) (omega (arith, length-drop 2 b, bodies-total z)) in
+    sym (piece-join 2 35 (total sizes 7) b) ∙ take-all (35 + total sizes 7) (drop 2 b) (omega (arith, length-drop 2 b, bodies-total z)) in
     let whole : b ≡ getD b 0 0 ∷ getD b 1 0 ∷ drop 2 b = drop-more b 0 0 (omega arith) ∙ ap (λ xs. getD b 0 0 ∷ xs) (drop-more b 1 0 (omega arith)) in
     ap (λ xs. 1 ∷ z ∷ (xs ++ bodiesBytes (decoded b))) contents
     ∙ ap (λ xs. 1 ∷ z ∷ (piece 2 35 b ++ xs)) bodies
@@ -194,7 +195,7 @@ entry-at : (f : Figures) (i : ℕ) → i < 7 → entryBytes (f .finalAge) (kindA
 entry-at f i l =
     let z = f .finalAge in
     let contents : contentsBytes z ≡ piece 2 (total (λ _. 5) 7) (encoded f) =
-      sym (take-at (contentsBytes z) (bodiesBytes f) 35 (length-contents z 7)) ∙ ap (λ n. piece 2 n (encoded f)) (sym (total-same 5 7)) in
+    sym (take-at (contentsBytes z) (bodiesBytes f) 35 (length-contents z 7)) ∙ ap (λ n. piece 2 n (encoded f)) (sym (total-same 5 7)) in
     let here : 2 + total (λ _. 5) i ≡ entryPlace (kindAt i) = omega (arith, entry-place i l, total-same 5 i) in
     to-pieces (encoded f) (λ j. entryBytes z (kindAt j)) (λ _. 5) 2 7 (λ j. refl) (omega (arith, length-encoded f, total-same 5 7)) contents i l
     ∙ ap (λ q. piece q 5 (encoded f)) here
@@ -217,7 +218,7 @@ body-at f i l =
     let sizes : ℕ → ℕ = λ j. 4 * count z (kindAt j) in
     let behind : drop 37 (encoded f) ≡ bodiesBytes f = drop-at (contentsBytes z) (bodiesBytes f) 35 (length-contents z 7) in
     let all : bodiesBytes f ≡ piece 37 (total sizes 7) (encoded f) =
-      sym (take-all (total sizes 7) (bodiesBytes f) (omega (arith, length-bodies f, bodies-total z))) ∙ ap (take (total sizes 7)) (sym behind) in
+    sym (take-all (total sizes 7) (bodiesBytes f) (omega (arith, length-bodies f, bodies-total z))) ∙ ap (take (total sizes 7)) (sym behind) in
     to-pieces (encoded f) (λ j. bodyBytes f (kindAt j)) sizes 37 7 (λ j. length-body f (kindAt j)) (omega (arith, length-encoded f, bodies-total z)) all i l
     ∙ ap (λ q. piece q (sizes i) (encoded f)) (body-total z i l)
 
@@ -227,10 +228,10 @@ figure-at f lawful k x l =
     let p = bodyPlace z k in
     let n = count z k in
     let body : bodyBytes f k ≡ piece p (total (λ _. 4) n) (encoded f) =
-      each-kind (λ j. bodyBytes f j ≡ piece (bodyPlace z j) (4 * count z j) (encoded f)) (body-at f) k ∙ ap (λ m. piece p m (encoded f)) (sym (total-same 4 n)) in
+    each-kind (λ j. bodyBytes f j ≡ piece (bodyPlace z j) (4 * count z j) (encoded f)) (body-at f) k ∙ ap (λ m. piece p m (encoded f)) (sym (total-same 4 n)) in
     let here : bytes32 (f .figure k x) ≡ piece (p + 4 * x) 4 (encoded f) =
-      to-pieces (encoded f) (λ y. bytes32 (f .figure k y)) (λ _. 4) p n (λ y. refl) (omega (arith, length-encoded f, total-same 4 n, body-within z k)) body x l
-      ∙ ap (λ q. piece (p + q) 4 (encoded f)) (total-same 4 x) in
+    to-pieces (encoded f) (λ y. bytes32 (f .figure k y)) (λ _. 4) p n (λ y. refl) (omega (arith, length-encoded f, total-same 4 n, body-within z k)) body x l
+    ∙ ap (λ q. piece (p + q) 4 (encoded f)) (total-same 4 x) in
     write32 (encoded f) (p + 4 * x) (f .figure k x) (omega (arith, million f lawful k x)) here
 
 pub decoded-encoded : (f : Figures) → Lawful f → decoded (encoded f) ≡ f
@@ -249,18 +250,19 @@ encoded-passes f lawful =
 
 -- The two calls that go round.
 pub rewritten : (r : Result ℕ Fault) (b buffer after : List ℕ) (f : Figures) → ((i : ℕ) → getD b i 0 < 256) → bookFault b ≡ None → f ≡ decoded b
-  → Outcome r (bufferFault (f .finalAge) buffer) (λ n. (n ≡ bookLength (f .finalAge)) × (after ≡ written f buffer))
-  → Outcome r (rewriteFault b buffer) (λ n. (n ≡ length b) × (after ≡ b ++ drop n buffer))
+    → Outcome r (bufferFault (f .finalAge) buffer) (λ n. (n ≡ bookLength (f .finalAge)) × (after ≡ written f buffer))
+    → Outcome r (rewriteFault b buffer) (λ n. (n ≡ length b) × (after ≡ b ++ drop n buffer))
 rewritten (Ok n) b buffer after f small none told answer =
     let same : encoded f ≡ b = ap encoded told ∙ encoded-decoded b small none in
-    let long : n ≡ length b = answer .1 .0 ∙ sym (length-encoded f) ∙ ap length same in
-    (passed-on _ _ none ∙ ap (λ g. bufferFault (g .finalAge) buffer) (sym told) ∙ answer .0,
-     (long, answer .1 .1 ∙ ap (λ xs. xs ++ drop (bookLength (f .finalAge)) buffer) same ∙ ap (λ m. b ++ drop m buffer) (sym (answer .1 .0))))
+    let long : n ≡ length b = answer .1 .0 ∙ sym (length-encoded f) ∙ ap length same in (
+      passed-on _ _ none ∙ ap (λ g. bufferFault (g .finalAge) buffer) (sym told) ∙ answer .0,
+      (long, answer .1 .1 ∙ ap (λ xs. xs ++ drop (bookLength (f .finalAge)) buffer) same ∙ ap (λ m. b ++ drop m buffer) (sym (answer .1 .0))),
+    )
 rewritten (Err e) b buffer after f small none told answer = passed-on _ _ none ∙ ap (λ g. bufferFault (g .finalAge) buffer) (sym told) ∙ answer
 
 pub reread : {X : Type 0} (told : X → Figures) (r : Result X Fault) (f : Figures) (buffer after part : List ℕ) (n : ℕ) → Lawful f → bufferFault (f .finalAge) buffer ≡ None → n ≡ bookLength (f .finalAge) → after ≡ written f buffer → part ≡ take n after
-  → Outcome r (bookFault part) (λ t. told t ≡ decoded part)
-  → Outcome r (bufferFault (f .finalAge) buffer) (λ t. (told t ≡ f) × (after ≡ written f buffer)) × refused r (λ _. after ≡ buffer)
+    → Outcome r (bookFault part) (λ t. told t ≡ decoded part)
+    → Outcome r (bufferFault (f .finalAge) buffer) (λ t. (told t ≡ f) × (after ≡ written f buffer)) × refused r (λ _. after ≡ buffer)
 reread told (Ok t) f buffer after part n lawful room long filled cut answer =
     let same : part ≡ encoded f = cut ∙ ap (take n) filled ∙ take-at (encoded f) (drop (bookLength (f .finalAge)) buffer) n (length-encoded f ∙ sym long) in
     ((room, (answer .1 ∙ ap decoded same ∙ decoded-encoded f lawful, filled)), tt)

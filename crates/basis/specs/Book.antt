@@ -5,11 +5,11 @@ use Prim.Native.Nat.{ℕ, zero, suc, _+_, _-_, _*_, _/_, _%_}
 use lib.Dec.{ltb, leb, eqb}
 use lib.ListN.{length, getD, take, drop}
 use Rattle.std.specs.declared.option.Option.{Option}
-use Rattle.basis.specs.declared.fault.Fault.{Fault}
-use Rattle.basis.specs.declared.fault.Refusal.the-variants.{Stub, Edition, FinalAge, Contents, Length, Figure, Exits, Seam, OpenEnd, Buffer}
+use Rattle.fault.specs.declared.Fault.{Fault}
+use Rattle.fault.specs.declared.Refusal.the-variants.{Stub, Edition, FinalAge, Contents, Length, Figure, Exits, Seam, OpenEnd, Buffer}
 use Rattle.basis.specs.declared.kind.Kind.{Kind}
 use Rattle.basis.specs.declared.kind.Kind.the-variants.{Invalidity, ActiveDeath, InvalidDeath, PopulationDeath, WidowDeath, Married, SpouseAge}
-use Rattle.basis.specs.Faults.{fault, refuseIf, firstOf, firstBelow}
+use Rattle.fault.specs.Faults.{fault, refuseIf, firstOf, firstBelow}
 use Rattle.basis.specs.Figures.{Figures, listed, rank, count, limit}
 
 -- Numbers of two and four bytes, the highest byte first: as read at a place, and as written.

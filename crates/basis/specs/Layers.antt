@@ -6,11 +6,11 @@ use lib.IntN.{ℤ, pos, negsuc, _+ℤ_, natAbs}
 use lib.Signed.{ltZ}
 use Rattle.std.specs.Numbers.{minZ, maxZ}
 use Rattle.std.specs.declared.option.Option.{Option}
-use Rattle.basis.specs.declared.fault.Fault.{Fault}
-use Rattle.basis.specs.declared.fault.Refusal.the-variants.{Shift, Loading}
+use Rattle.fault.specs.declared.Fault.{Fault}
+use Rattle.fault.specs.declared.Refusal.the-variants.{Shift, Loading}
 use Rattle.basis.specs.declared.kind.Kind.{Kind}
 use Rattle.basis.specs.declared.kind.Kind.the-variants.{Invalidity, ActiveDeath, InvalidDeath, PopulationDeath, WidowDeath, Married, SpouseAge}
-use Rattle.basis.specs.Faults.{fault, refuseIf}
+use Rattle.fault.specs.Faults.{fault, refuseIf}
 use Rattle.basis.specs.Figures.{Figures, listed}
 
 -- an age that was added to, brought up or down into low .. high

@@ -1,4 +1,3 @@
-pub mod Faults
 pub mod Figures
 pub mod StraightLine
 pub mod Layers

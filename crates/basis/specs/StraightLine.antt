@@ -3,12 +3,12 @@ use mathlib.Core.Bool.{_||_}
 use Prim.Native.Nat.{ℕ, _-_, _/_}
 use lib.Dec.{ltb}
 use Rattle.std.specs.declared.option.Option.{Option}
-use Rattle.basis.specs.declared.fault.Fault.{Fault}
-use Rattle.basis.specs.declared.fault.Refusal.the-variants.{FinalAge, Figure}
-use Rattle.basis.specs.declared.fault.Part.the-variants.{Basis}
+use Rattle.fault.specs.declared.Fault.{Fault}
+use Rattle.fault.specs.declared.Refusal.the-variants.{FinalAge, Figure}
+use Rattle.fault.specs.declared.Part.the-variants.{Basis}
 use Rattle.basis.specs.declared.kind.Kind.{Kind}
 use Rattle.basis.specs.declared.kind.Kind.the-variants.{Invalidity, ActiveDeath, InvalidDeath, PopulationDeath, WidowDeath, Married, SpouseAge}
-use Rattle.basis.specs.Faults.{faultIn, refuseIf, firstOf}
+use Rattle.fault.specs.Faults.{faultIn, refuseIf, firstOf}
 use Rattle.basis.specs.Figures.{Figures, listed}
 
 -- a death in each of the years left up to the last age is equally likely

@@ -4,20 +4,20 @@ ghost use Rattle.basis.specs.Book.{entryPlace, bodyPlace, bookLength};
 use crate::kind::Kind;
 
 // The edition that is read and written.
-pub const EDITION: u8 = 1;
+pub(crate) const EDITION: u8 = 1;
 
 // Where the bodies begin: after the edition, the final age and seven entries of five bytes.
-pub const CONTENTS_END: usize = 37;
+pub(crate) const CONTENTS_END: usize = 37;
 
 // Where a kind's entry stands among the contents.
-pub fn entry_place(kind: Kind) -> usize
+pub(crate) fn entry_place(kind: Kind) -> usize
     ensures { λ r. ⌜ r ≡ entryPlace kind ⌝ }
 {
     2 + 5 * (kind.rank() as usize - 1)
 }
 
 // Where a kind's figures begin.
-pub fn body_place(kind: Kind, final_age: u32) -> usize
+pub(crate) fn body_place(kind: Kind, final_age: u32) -> usize
     ensures { λ r. ⌜ r ≡ bodyPlace «final_age» kind ⌝ }
 {
     let active = final_age as usize;
@@ -34,7 +34,7 @@ pub fn body_place(kind: Kind, final_age: u32) -> usize
 }
 
 // How many bytes the book of this final age has.
-pub fn book_length(final_age: u32) -> usize
+pub(crate) fn book_length(final_age: u32) -> usize
     ensures { λ r. ⌜ r ≡ bookLength «final_age» ⌝ }
 {
     8 * final_age as usize + 2457

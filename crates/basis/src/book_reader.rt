@@ -3,7 +3,7 @@ ghost use mathlib.Core.Path.{_≡_};
 ghost use Prim.Native.Nat.{ℕ, _+_, _*_, _≤_, _<_};
 ghost use lib.ListN.{length, getD};
 ghost use Rattle.basis.specs.Book.{be16, be32, bodyPlace, bookLength, decodedBy, openingFault, entryFault, contentsFault, lengthFault};
-ghost use Rattle.basis.specs.Faults.{Outcome};
+ghost use Rattle.fault.specs.Faults.{Outcome};
 ghost use Rattle.basis.specs.Figures.{count};
 ghost use Rattle.basis.specs.Table.{tabled};
 use crate::book::CONTENTS_END;
@@ -11,13 +11,13 @@ use crate::book::EDITION;
 use crate::book::body_place;
 use crate::book::book_length;
 use crate::book::entry_place;
-use crate::fault::Fault;
-use crate::fault::Refusal;
 use crate::kind::GREATEST_FINAL_AGE;
 use crate::kind::Kind;
 use crate::kind::LEAST_FINAL_AGE;
 use crate::rows::ROW;
 use crate::rows::Rows;
+use fault::Fault;
+use fault::Refusal;
 
 fn number_at(book: &[u8], place: usize) -> u16
     requires { ⌜ place + 2 ≤ length (now book) ⌝ }
@@ -30,11 +30,16 @@ fn figure_at(book: &[u8], place: usize) -> u32
     requires { ⌜ place + 4 ≤ length (now book) ⌝ }
     ensures { λ r. ⌜ r ≡ be32 (now (book .entry)) place ⌝ }
 {
-    u32::from_be_bytes([book[place], book[place + 1], book[place + 2], book[place + 3]])
+    u32::from_be_bytes([
+        book[place],
+        book[place + 1],
+        book[place + 2],
+        book[place + 3],
+    ])
 }
 
 // Stub, edition and final age; the final age of a book that passes.
-pub fn check_opening(book: &[u8]) -> Result<u32, Fault>
+pub(crate) fn check_opening(book: &[u8]) -> Result<u32, Fault>
     ensures { λ r. ⌜ Outcome r (openingFault (now (book .entry))) (λ z. (z ≡ getD (now (book .entry)) 1 0) × ((i : ℕ) → getD (now (book .entry)) i 0 < 256)) ⌝ }
 {
     if book.len() < CONTENTS_END {
@@ -64,7 +69,7 @@ fn check_entry(book: &[u8], final_age: u32, kind: Kind) -> Result<(), Fault>
     Ok(())
 }
 
-pub fn check_contents(book: &[u8], final_age: u32) -> Result<(), Fault>
+pub(crate) fn check_contents(book: &[u8], final_age: u32) -> Result<(), Fault>
     requires { ⌜ 37 ≤ length (now book) ⌝ }
     ensures { λ r. ⌜ Outcome r (contentsFault (now (book .entry)) «final_age») (λ _. Unit {0}) ⌝ }
 {
@@ -74,7 +79,7 @@ pub fn check_contents(book: &[u8], final_age: u32) -> Result<(), Fault>
     Ok(())
 }
 
-pub fn check_length(book: &[u8], final_age: u32) -> Result<(), Fault>
+pub(crate) fn check_length(book: &[u8], final_age: u32) -> Result<(), Fault>
     ensures { λ r. ⌜ Outcome r (lengthFault (now (book .entry)) «final_age») (λ _. Unit {0}) ⌝ }
 {
     if book.len() != book_length(final_age) {
@@ -96,7 +101,7 @@ fn read_row(book: &[u8], final_age: u32, kind: Kind) -> [u32; ROW]
     row
 }
 
-pub fn read_rows(book: &[u8], final_age: u32) -> Rows
+pub(crate) fn read_rows(book: &[u8], final_age: u32) -> Rows
     requires { ⌜ «final_age» ≤ 80 ⌝ ∗ ⌜ length (now book) ≡ bookLength «final_age» ⌝ }
     ensures told { λ r. ⌜ tabled r ≡ decodedBy «final_age» (now (book .entry)) ⌝ }
     ensures aged { λ r. ⌜ r .«final_age» ≡ «final_age» ⌝ }

@@ -24,8 +24,16 @@ fn put_entry(buffer: &mut [u8], final_age: u32, kind: Kind)
 {
     let place = entry_place(kind);
     put(buffer, place, &[kind.rank()]);
-    put(buffer, place + 1, &(kind.count(final_age) as u16).to_be_bytes());
-    put(buffer, place + 3, &(body_place(kind, final_age) as u16).to_be_bytes());
+    put(
+        buffer,
+        place + 1,
+        &(kind.count(final_age) as u16).to_be_bytes(),
+    );
+    put(
+        buffer,
+        place + 3,
+        &(body_place(kind, final_age) as u16).to_be_bytes(),
+    );
 }
 
 fn put_contents(buffer: &mut [u8], final_age: u32)
@@ -43,7 +51,11 @@ fn put_body(buffer: &mut [u8], rows: &Rows, kind: Kind)
 {
     let place = body_place(kind, rows.final_age);
     for age in 0..kind.count(rows.final_age) {
-        put(buffer, place + 4 * age as usize, &rows.figure(kind, age).to_be_bytes());
+        put(
+            buffer,
+            place + 4 * age as usize,
+            &rows.figure(kind, age).to_be_bytes(),
+        );
     }
 }
 
@@ -57,7 +69,7 @@ fn put_bodies(buffer: &mut [u8], rows: &Rows)
 }
 
 // Puts the book of the rows at the buffer's beginning.
-pub fn put_book(buffer: &mut [u8], rows: &Rows)
+pub(crate) fn put_book(buffer: &mut [u8], rows: &Rows)
     requires { ⌜ now rows .«final_age» ≤ 80 ⌝ ∗ ⌜ bookLength (now rows .«final_age») ≤ length (now buffer) ⌝ }
     ensures { λ _. ⌜ now (buffer .exit) ≡ written (tabled (now (rows .entry))) (now (buffer .entry)) ⌝ }
 {

@@ -2,17 +2,17 @@
 ghost use mathlib.Core.Path.{_≡_};
 ghost use Prim.Native.Nat.{_≤_};
 ghost use Rattle.basis.specs.Book.{listFault, limitFault, exitsFault, seamFault, openEndFault, figuresFault};
-ghost use Rattle.basis.specs.Faults.{Outcome};
+ghost use Rattle.fault.specs.Faults.{Outcome};
 ghost use Rattle.basis.specs.Table.{tabled};
-use crate::fault::Fault;
-use crate::fault::Refusal;
 use crate::kind::AGES;
 use crate::kind::CERTAIN;
 use crate::kind::Kind;
 use crate::kind::LAST_AGE;
 use crate::rows::Rows;
+use fault::Fault;
+use fault::Refusal;
 
-pub fn check_figures(rows: &Rows) -> Result<(), Fault>
+pub(crate) fn check_figures(rows: &Rows) -> Result<(), Fault>
     requires { ⌜ now rows .«final_age» ≤ 80 ⌝ }
     ensures { λ r. ⌜ Outcome r (figuresFault (tabled (now (rows .entry)))) (λ _. Unit {0}) ⌝ }
 {

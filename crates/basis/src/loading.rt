@@ -1,17 +1,18 @@
 // The loading: a layer that raises or lowers the death chances of the basis below by a factor.
 ghost use mathlib.Core.Path.{_≡_};
 ghost use Prim.Native.Nat.{_≤_};
-ghost use Rattle.basis.specs.Faults.{Outcome};
+ghost use Rattle.fault.specs.Faults.{Outcome};
 ghost use Rattle.basis.specs.Layers.{loaded, loadingFault, raised};
-use crate::fault::Fault;
-use crate::fault::Refusal;
 use crate::interface::Basis;
 use crate::kind::CERTAIN;
 use crate::kind::Kind;
 use crate::kind::LAST_AGE;
+use fault::Fault;
+use fault::Refusal;
 
 // The range of a loading's factor, in thousandths.
 pub const LEAST_LOADING: u32 = 500;
+
 pub const GREATEST_LOADING: u32 = 2000;
 
 // The setting of a loading: its factor in thousandths.
@@ -68,7 +69,8 @@ pub impl<B: Basis> Basis for Loaded<B> as LoadedBasis {
         let figure = self.below.figure(kind, age);
         match kind {
             Kind::Invalidity | Kind::Married | Kind::SpouseAge => figure,
-            Kind::ActiveDeath => self.loading.raised(figure, CERTAIN - self.below.figure(Kind::Invalidity, age)),
+            Kind::ActiveDeath => self.loading
+                .raised(figure, CERTAIN - self.below.figure(Kind::Invalidity, age)),
             _ if age == LAST_AGE => CERTAIN,
             _ => self.loading.raised(figure, CERTAIN),
         }

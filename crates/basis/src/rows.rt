@@ -8,23 +8,23 @@ use crate::kind::AGES;
 use crate::kind::Kind;
 
 // How many figures a row has room for: one for each age.
-pub const ROW: usize = 121;
+pub(crate) const ROW: usize = 121;
 
 #[derive(Clone, Copy)]
-pub struct Rows {
-    pub final_age: u32,
-    pub invalidity: [u32; ROW],
-    pub active_death: [u32; ROW],
-    pub invalid_death: [u32; ROW],
-    pub population_death: [u32; ROW],
-    pub widow_death: [u32; ROW],
-    pub married: [u32; ROW],
-    pub spouse_age: [u32; ROW],
+pub(crate) struct Rows {
+    pub(crate) final_age: u32,
+    pub(crate) invalidity: [u32; ROW],
+    pub(crate) active_death: [u32; ROW],
+    pub(crate) invalid_death: [u32; ROW],
+    pub(crate) population_death: [u32; ROW],
+    pub(crate) widow_death: [u32; ROW],
+    pub(crate) married: [u32; ROW],
+    pub(crate) spouse_age: [u32; ROW],
 }
 
 impl Rows {
     // The figures of any basis.
-    pub fn of<B: Basis>(basis: &B) -> Rows
+    pub(crate) fn of<B: Basis>(basis: &B) -> Rows
         ensures { λ r. ⌜ tabled r ≡ figures (now (basis .entry)) ⌝ }
     {
         Rows {
@@ -39,7 +39,7 @@ impl Rows {
         }
     }
 
-    pub fn row(&self, kind: Kind) -> &[u32; ROW]
+    pub(crate) fn row(&self, kind: Kind) -> &[u32; ROW]
         ensures { λ r. ⌜ now r ≡ rowOf (now (self .entry)) kind ⌝ }
     {
         match kind {
@@ -54,7 +54,7 @@ impl Rows {
     }
 
     // The list's figure at an age, 0 at an age that the list has not.
-    pub fn figure(&self, kind: Kind, age: u32) -> u32
+    pub(crate) fn figure(&self, kind: Kind, age: u32) -> u32
         requires { ⌜ now self .«final_age» ≤ 80 ⌝ }
         ensures { λ r. ⌜ r ≡ tabled (now (self .entry)) .figure kind age ⌝ }
     {

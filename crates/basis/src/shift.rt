@@ -5,13 +5,13 @@ ghost use Prim.Native.Nat.{_≤_};
 ghost use lib.Dec.{eqb};
 ghost use lib.IntN.{pos, negsuc, _+ℤ_};
 ghost use lib.Signed.{_≤ℤ_};
-ghost use Rattle.basis.specs.Faults.{Outcome};
+ghost use Rattle.fault.specs.Faults.{Outcome};
 ghost use Rattle.basis.specs.Layers.{shifted, shiftFault, brought, readAge};
-use crate::fault::Fault;
-use crate::fault::Refusal;
 use crate::interface::Basis;
 use crate::kind::Kind;
 use crate::kind::LAST_AGE;
+use fault::Fault;
+use fault::Refusal;
 
 // The greatest number of years that a shift goes up or down.
 pub const GREATEST_SHIFT: i32 = 10;
@@ -84,6 +84,7 @@ pub impl<B: Basis> Basis for Shifted<B> as ShiftedBasis {
         if age >= kind.count(final_age) {
             return 0;
         }
-        self.below.figure(kind, self.shift.read_age(final_age, kind, age))
+        self.below
+            .figure(kind, self.shift.read_age(final_age, kind, age))
     }
 }

@@ -1,17 +1,17 @@
 // The straight-line basis: deaths spread evenly over the years up to the last age.
 ghost use mathlib.Core.Path.{_≡_};
 ghost use Prim.Native.Nat.{_≤_};
-ghost use Rattle.basis.specs.Faults.{Outcome};
+ghost use Rattle.fault.specs.Faults.{Outcome};
 ghost use Rattle.basis.specs.StraightLine.{straightLine, straightLineFault};
-use crate::fault::Fault;
-use crate::fault::Part;
-use crate::fault::Refusal;
 use crate::interface::Basis;
 use crate::kind::AGES;
 use crate::kind::CERTAIN;
 use crate::kind::GREATEST_FINAL_AGE;
 use crate::kind::Kind;
 use crate::kind::LEAST_FINAL_AGE;
+use fault::Fault;
+use fault::Part;
+use fault::Refusal;
 
 // The greatest chance of invalidity that a straight-line basis takes.
 pub const GREATEST_INVALIDITY: u32 = 100_000;

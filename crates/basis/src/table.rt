@@ -4,7 +4,7 @@ ghost use mathlib.Core.List.{_++_};
 ghost use lib.ListN.{length, drop};
 ghost use Rattle.std.specs.Vec.{refused};
 ghost use Rattle.basis.specs.Book.{bookFault, bookLength, bufferFault, decoded, rewriteFault, written};
-ghost use Rattle.basis.specs.Faults.{Outcome};
+ghost use Rattle.fault.specs.Faults.{Outcome};
 ghost use Rattle.basis.specs.Figures.{Aged, Limited, Exits, Seamless, Closed};
 ghost use Rattle.basis.specs.StraightLine.{straightLine};
 ghost use Rattle.basis.specs.Table.{tabled};
@@ -14,14 +14,17 @@ use crate::book_reader::check_length;
 use crate::book_reader::check_opening;
 use crate::book_reader::read_rows;
 use crate::book_writer::put_book;
-use crate::fault::Fault;
-use crate::fault::Refusal;
 use crate::interface::Basis;
 use crate::kind::Kind;
 use crate::laws::check_figures;
 use crate::rows::Rows;
 use crate::straight_line::StraightLine;
 use crate::straight_line::StraightLineBasis;
+use fault::Fault;
+use fault::Refusal;
+
+// The length of the longest book, that of final age 80: a buffer of this length takes any.
+pub const LONGEST_BOOK: usize = 3097;
 
 #[derive(Clone, Copy)]
 pub struct Table {
@@ -64,20 +67,13 @@ impl Table {
         Ok(Table { rows })
     }
 
-    // How many bytes the book of this basis has.
-    pub fn book_length(&self) -> usize
-        ensures { λ r. ⌜ r ≡ bookLength (now (self .entry) .rows .«final_age») ⌝ }
-    {
-        book_length(self.rows.final_age)
-    }
-
     // Writes the book of this basis into the first bytes of a buffer, and says how many they are. A buffer that is
     // too short is refused and stays as it was.
     pub fn write(&self, buffer: &mut [u8]) -> Result<usize, Fault>
         ensures answer { λ r. ⌜ Outcome r (bufferFault (now (self .entry) .rows .«final_age») (now (buffer .entry))) (λ n. (n ≡ bookLength (now (self .entry) .rows .«final_age»)) × (now (buffer .exit) ≡ written (tabled (now (self .entry) .rows)) (now (buffer .entry)))) ⌝ }
         ensures kept { λ r. ⌜ refused r (λ _. now (buffer .exit) ≡ now (buffer .entry)) ⌝ }
     {
-        let length = self.book_length();
+        let length = book_length(self.rows.final_age);
         if buffer.len() < length {
             return Err(Fault::new(Refusal::Buffer, 0, 0));
         }

@@ -2,9 +2,9 @@ use mathlib.Core.Path.{_≡_, subst}
 use native.Mathlib.Omega.{arith}
 use Rattle.std.proofs.shelf.Results.{err-from-errBy}
 use Rattle.std.specs.declared.option.Option.the-variants.{None}
-use Rattle.basis.specs.Faults.{firstBelow}
+use Rattle.fault.specs.Faults.{firstBelow}
 use Rattle.basis.specs.Book.{entryFault, kindAt}
-use Rattle.basis.proofs.Firsts.{first-none, first-more, first-found}
+use Rattle.fault.proofs.Firsts.{first-none, first-more, first-found}
 use Rattle.basis.proofs.book_reader.check_contents.Needs as need
 
 pub loop-kind-holds : need.loop-kind-holds

@@ -15,7 +15,7 @@ loop-kind-again c =
     let f = tabled (c .args .rows .now) in
     c .put-body .ensures
     ∙ placed-order-more (c .args .buffer .now) (c .loop-kind .buffer) 37 i (bodyPlace (f .finalAge) (kindAt i)) (λ j. bodyBytes f (kindAt j)) (c .loop-kind .inv)
-      (bodies-before f i (c .loop-kind-test .taken)) (omega (arith, body-within (f .finalAge) (kindAt i)))
+    (bodies-before f i (c .loop-kind-test .taken)) (omega (arith, body-within (f .finalAge) (kindAt i)))
 
 pub returns : need.returns
 returns c =

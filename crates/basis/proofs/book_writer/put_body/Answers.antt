@@ -19,4 +19,4 @@ loop-age-again c =
     c .put .ensures
     ∙ ap (placed (c .loop-age .buffer) at) (c .to-be-bytes .ensures ∙ ap bytes32 (c .figure .ensures))
     ∙ placed-order-more (c .args .buffer .now) (c .loop-age .buffer) (c .body-place-place .result) n at text (c .loop-age .inv) (omega (arith, length-order n 4 text (λ x. refl)))
-      (omega (arith, body-within (c .args .rows .now .«final_age») (c .args .kind)))
+    (omega (arith, body-within (c .args .rows .now .«final_age») (c .args .kind)))

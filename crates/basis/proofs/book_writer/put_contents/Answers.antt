@@ -13,7 +13,7 @@ loop-kind-again c =
     let z = c .args .final-age in
     c .put-entry .ensures
     ∙ placed-order-more (c .args .buffer .now) (c .loop-kind .buffer) 2 i (entryPlace (kindAt i)) (λ j. entryBytes z (kindAt j)) (c .loop-kind .inv)
-      (omega (arith, length-contents z i, entry-place i (c .loop-kind-test .taken))) (omega (arith, entry-within (kindAt i)))
+    (omega (arith, length-contents z i, entry-place i (c .loop-kind-test .taken))) (omega (arith, entry-within (kindAt i)))
 
 pub returns : need.returns
 returns c =

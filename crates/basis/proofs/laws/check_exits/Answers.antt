@@ -1,6 +1,6 @@
 use native.Mathlib.Omega.{arith}
 use Rattle.std.proofs.shelf.Tests.{lt-ltb, le-ltb}
-use Rattle.basis.proofs.Firsts.{first-none, first-more, first-found, refuse-some, none-refuse}
+use Rattle.fault.proofs.Firsts.{first-none, first-more, first-found, refuse-some, none-refuse}
 use Rattle.basis.proofs.laws.check_exits.Needs as need
 
 pub loop-age-holds : need.loop-age-holds

@@ -1,9 +1,9 @@
 use mathlib.Core.Path.{ap, _∙_}
 use native.Mathlib.Omega.{arith}
 use Rattle.std.proofs.shelf.Tests.{lt-ltb, le-ltb}
-use Rattle.basis.specs.declared.fault.Refusal.the-variants.{Figure}
-use Rattle.basis.specs.Faults.{fault}
-use Rattle.basis.proofs.Firsts.{first-none, first-more, first-found, refuse-some, none-refuse}
+use Rattle.fault.specs.declared.Refusal.the-variants.{Figure}
+use Rattle.fault.specs.Faults.{fault}
+use Rattle.fault.proofs.Firsts.{first-none, first-more, first-found, refuse-some, none-refuse}
 use Rattle.basis.proofs.laws.check_list.Needs as need
 
 pub loop-age-holds : need.loop-age-holds

@@ -1,6 +1,6 @@
 use mathlib.Core.Path.{_≡_}
 use Rattle.std.specs.declared.option.Option.the-variants.{None}
-use Rattle.basis.specs.Faults.{firstBelow}
+use Rattle.fault.specs.Faults.{firstBelow}
 use Rattle.basis.specs.Book.{limitFaultAt}
 use Rattle.basis.specs.Table.{tabled}
 use Rattle.basis.proofs.laws.check_list.Given as given

@@ -3,7 +3,7 @@ use native.Mathlib.Omega.{arith}
 use Rattle.std.proofs.shelf.Tests.{eq-eqb, ne-eqb, le-leb, lt-leb, and-from, and-left, and-right, not-from-true, not-from-false}
 use Rattle.basis.specs.declared.kind.Kind.the-variants.{InvalidDeath, PopulationDeath}
 use Rattle.basis.specs.Table.{tabled}
-use Rattle.basis.proofs.Firsts.{first-passed, first-more, first-found, refuse-some, none-refuse}
+use Rattle.fault.proofs.Firsts.{first-passed, first-more, first-found, refuse-some, none-refuse}
 use Rattle.basis.proofs.laws.check_seam.Needs as need
 
 -- below the final age nothing is asked
@@ -19,5 +19,5 @@ loop-age-again c =
 pub returns-then-figure : need.returns-then-figure
 returns-then-figure c =
     first-found (c .loop-age .age) _ _ _ (c .loop-age .inv)
-      (refuse-some _ _ (c .new .result) (and-from _ _ (le-leb _ _ (c .loop-age .kept .age)) (not-from-false _ (ne-eqb _ _ (λ same. c .if-figure .taken (omega arith))))) (c .new .ensures))
-      (c .loop-age-test .taken)
+    (refuse-some _ _ (c .new .result) (and-from _ _ (le-leb _ _ (c .loop-age .kept .age)) (not-from-false _ (ne-eqb _ _ (λ same. c .if-figure .taken (omega arith))))) (c .new .ensures))
+    (c .loop-age-test .taken)

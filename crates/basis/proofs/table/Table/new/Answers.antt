@@ -8,5 +8,5 @@ pub ghost-result : need.ghost-result
 ghost-result c =
     let start = c .unwrap-start .result in
     let lawful : Lawful (tabled (c .of .result)) =
-      subst Lawful (sym (c .of .ensures)) (straight-line-lawful (start .«final_age») (start .invalidity) (start .«old_enough») (start .«young_enough») (start .modest)) in
+    subst Lawful (sym (c .of .ensures)) (straight-line-lawful (start .«final_age») (start .invalidity) (start .«old_enough») (start .«young_enough») (start .modest)) in
     (lawful .aged, (lawful .limited, (lawful .exits, (lawful .seamless, (lawful .closed, tt)))))

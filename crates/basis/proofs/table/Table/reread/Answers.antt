@@ -16,5 +16,5 @@ returns c =
     let whole : n - 0 ≡ n = omega arith in
     let wrote = c .in-Continue-length .ensures tt .answer in
     let round = reread (λ t. tabled (t .rows)) (c .from-book .result) (tabled (self .rows)) (c .args .buffer .now) (c .write .last .buffer) (take (n - 0) (c .write .last .buffer)) n lawful (wrote .0) (wrote .1 .0) (wrote .1 .1)
-      (ap (λ m. take m (c .write .last .buffer)) whole) (c .from-book .ensures) in
+    (ap (λ m. take m (c .write .last .buffer)) whole) (c .from-book .ensures) in
     record { answer = round .0; kept = round .1 }

@@ -1,6 +1,9 @@
 // Why a thing is refused: a record by value that passes upward whole, from the book to the stock.
 ghost use mathlib.Core.Path.{_≡_};
-ghost use Rattle.basis.specs.Faults.{rule, fault, faultIn, partName, hyphened};
+ghost use Rattle.std.specs.declared.option.Option.the-variants.{Some};
+ghost use Rattle.fault.specs.Faults.{rule, fault, faultIn, faultText, partName, hyphened};
+use std::error::Error;
+use std::fmt;
 
 // The refusals of the whole product, in the order of their numbers and of the checks.
 #[derive(Clone, Copy, PartialEq, Eq, Debug)]
@@ -88,7 +91,7 @@ impl Refusal {
     }
 
     // The word as it is printed: of two words, joined by a hyphen, so that a printed fault has five words.
-    pub fn label(self) -> &'static str
+    pub(crate) fn label(self) -> &'static str
         ensures { λ r. ⌜ now r ≡ hyphened (rule self .word) ⌝ }
     {
         match self {
@@ -98,7 +101,7 @@ impl Refusal {
         }
     }
 
-    pub fn part(self) -> Part
+    pub(crate) fn part(self) -> Part
         ensures { λ r. ⌜ r ≡ rule self .part ⌝ }
     {
         match self.number() {
@@ -112,7 +115,7 @@ impl Refusal {
 }
 
 impl Part {
-    pub fn name(self) -> &'static str
+    pub(crate) fn name(self) -> &'static str
         ensures { λ r. ⌜ now r ≡ partName self ⌝ }
     {
         match self {
@@ -144,3 +147,18 @@ impl Fault {
         }
     }
 }
+
+pub impl fmt::Display for Fault as FaultDisplay {
+    ghost shown = { λ e. Some (faultText e) };
+
+    fn fmt<W: fmt::Write>(&self, f: &mut fmt::Formatter<W>) -> fmt::Result {
+        let number = self.refusal.number();
+        let word = self.refusal.label();
+        let part = self.part.name();
+        let first = self.place.first;
+        let second = self.place.second;
+        write!(f, "{number} {word} {part} {first} {second}")
+    }
+}
+
+pub impl Error for Fault as FaultError {}

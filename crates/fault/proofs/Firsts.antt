@@ -8,8 +8,8 @@ use native.Mathlib.Omega.{arith}
 use Rattle.std.specs.declared.option.Option.{Option}
 use Rattle.std.specs.declared.option.Option.the-variants.{Some, None}
 use Rattle.std.proofs.shelf.Tests.{cases-eq}
-use Rattle.basis.specs.declared.fault.Fault.{Fault}
-use Rattle.basis.specs.Faults.{refuseIf, firstOf, firstBelow}
+use Rattle.fault.specs.declared.Fault.{Fault}
+use Rattle.fault.specs.Faults.{refuseIf, firstOf, firstBelow}
 
 pub first-none : (check : ℕ → Option Fault) → firstBelow 0 check ≡ None
 unfolding firstBelow

@@ -1,19 +1,20 @@
 -- Every refusal with its number, word and part, and what a call that may refuse answers. Assumes nothing.
 use mathlib.Core.Path.{_≡_}
-use mathlib.Core.List.{List, map}
+use mathlib.Core.List.{List, map, _++_}
 use mathlib.Core.Bool.{Bool, true, false, cond}
 use Prim.Native.Nat.{ℕ, zero, suc}
 use lib.Chars.{codes}
 use lib.Dec.{eqb}
+use Rattle.std.specs.Written.{decimal}
 use Rattle.std.specs.declared.option.Option.{Option}
 use Rattle.std.specs.declared.option.Option.the-variants.{Some, None}
 use Rattle.std.specs.declared.result.Result.{Result}
 use Rattle.std.specs.declared.result.Result.the-variants.{Ok, Err}
-use Rattle.basis.specs.declared.fault.Refusal.{Refusal}
-use Rattle.basis.specs.declared.fault.Refusal.the-variants.{Stub, Edition, FinalAge, Contents, Length, Figure, Exits, Seam, OpenEnd, Shift, Loading, Interest, Instalments, Age, Span, Amount, Column, Known, Unknown, Full, Buffer}
-use Rattle.basis.specs.declared.fault.Part.{Part}
-use Rattle.basis.specs.declared.fault.Part.the-variants.{Book, Basis, Terms, Valuation, Stock}
-use Rattle.basis.specs.declared.fault.Fault.{Fault}
+use Rattle.fault.specs.declared.Refusal.{Refusal}
+use Rattle.fault.specs.declared.Refusal.the-variants.{Stub, Edition, FinalAge, Contents, Length, Figure, Exits, Seam, OpenEnd, Shift, Loading, Interest, Instalments, Age, Span, Amount, Column, Known, Unknown, Full, Buffer}
+use Rattle.fault.specs.declared.Part.{Part}
+use Rattle.fault.specs.declared.Part.the-variants.{Book, Basis, Terms, Valuation, Stock}
+use Rattle.fault.specs.declared.Fault.{Fault}
 
 -- what a refusal is: its number, its word and the part that refuses
 pub record Rule : Type 0 where
@@ -66,6 +67,12 @@ faultIn p why a b = record { refusal = why; part = p; place = record { first = a
 -- a fault at a place, in the refusal's own part
 abbrev pub fault : Refusal → ℕ → ℕ → Fault
 fault why a b = faultIn (rule why .part) why a b
+
+-- a fault as it is printed: number, word, part and place, as in "16 amount valuation 3 0"
+abbrev pub faultText : Fault → List ℕ
+faultText e =
+    decimal (rule (e .refusal) .number) ++ (codes " " ++ (hyphened (rule (e .refusal) .word) ++ (codes " " ++ (partName (e .part)
+    ++ (codes " " ++ (decimal (e .place .first) ++ (codes " " ++ decimal (e .place .second))))))))
 
 -- a check: the fault if the test is true
 abbrev pub refuseIf : Bool → Fault → Option Fault
