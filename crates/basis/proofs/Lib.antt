@@ -1,9 +1,3 @@
+pub mod Layered
 pub mod Listed
 pub mod StraightLines
-pub mod Layered
-pub mod Books
-pub mod Filled
-pub mod Lawfulness
-pub mod Placed
-pub mod Digits
-pub mod RoundTrips

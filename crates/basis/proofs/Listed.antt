@@ -5,12 +5,9 @@ use mathlib.Core.Logic.{⊎-elim}
 use Prim.Native.Nat.{ℕ, _+_, _≤_, _<_}
 use native.Mathlib.Omega.{arith}
 use lib.Dec.{ltb}
-use lib.ListN.{getD}
 use Rattle.std.proofs.shelf.Tests.{cond-both, cond-true, cond-false, lt-ltb, le-ltb, ltb-true, ltb-false, cases-lt}
 use Rattle.basis.specs.declared.kind.Kind.{Kind}
 use Rattle.basis.specs.declared.kind.Kind.the-variants.{Invalidity, ActiveDeath, InvalidDeath, PopulationDeath, WidowDeath, Married, SpouseAge}
-use Rattle.basis.specs.declared.rows.Rows.{Rows}
-use Rattle.basis.specs.Table.{rowOf, tabled}
 use Rattle.basis.specs.Figures.{Figures, Lawful, Ended, listed, count, limit}
 
 -- a list that has the age tells the rule's figure
@@ -74,9 +71,3 @@ listed-lawful z told r = record {
       (λ e. rw e (r .seamless x h (ltb-true x 121 e))) (λ e. rw e refl);
   closed = (r .invalid-end, r .population-end, r .widow-end);
 }
-
--- rows that hold the figures of every list stand for the figures
-pub tabled-is : (f : Figures) → Lawful f → (r : Rows) → r .«final_age» ≡ f .finalAge → ((k : Kind) (x : ℕ) → x < 121 → getD (rowOf r k) x 0 ≡ f .figure k x) → tabled r ≡ f
-tabled-is f lawful r aged each =
-    ap (λ z. listed z (λ k x. getD (rowOf r k) x 0)) aged
-    ∙ listed-is f (λ k x. getD (rowOf r k) x 0) (lawful .ended) (λ k x l. each k x (omega (arith, count-most (f .finalAge) k (lawful .aged .1))))

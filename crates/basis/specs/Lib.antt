@@ -1,5 +1,3 @@
 pub mod Figures
-pub mod StraightLine
 pub mod Layers
-pub mod Book
-pub mod Table
+pub mod StraightLine

@@ -49,14 +49,14 @@ impl Kind {
     ];
 
     // The kind's number in a book, 1 to 7.
-    pub(crate) fn rank(self) -> u8
+    pub fn rank(self) -> u8
         ensures { λ r. ⌜ r ≡ rank self ⌝ }
     {
         self as u8 + 1
     }
 
     // How many ages the list has: those of an active end before the final age.
-    pub(crate) fn count(self, final_age: u32) -> u32
+    pub fn count(self, final_age: u32) -> u32
         ensures { λ r. ⌜ r ≡ count «final_age» self ⌝ }
     {
         match self {
@@ -66,7 +66,7 @@ impl Kind {
     }
 
     // The greatest figure that the list may have.
-    pub(crate) fn limit(self) -> u32
+    pub fn limit(self) -> u32
         ensures { λ r. ⌜ r ≡ limit self ⌝ }
     {
         match self {

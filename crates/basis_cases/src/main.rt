@@ -9,14 +9,14 @@ use basis::shift::Shift;
 use basis::shift::ShiftedBasis;
 use basis::straight_line::StraightLine;
 use basis::straight_line::StraightLineBasis;
-use basis::table::LONGEST_BOOK;
-use basis::table::Table;
-use basis::table::TableBasis;
 use fault::Fault;
 use fault::FaultDisplay;
 use fault::FaultError;
 use std::error::AnyError;
 use std::str::SplitWhitespace;
+use table::LONGEST_BOOK;
+use table::Table;
+use table::TableBasis;
 
 // Two equal questions have equal answers, on any basis.
 fn steady<B: Basis>(basis: &B, kind: Kind, age: u32) -> bool
@@ -78,7 +78,7 @@ fn answer(rt: &LibcRuntime, taken: Result<u64, Fault>) -> Result<(), AnyError> {
     Ok(())
 }
 
-// A refused book leaves the basis as it was, and a taken one is written out as the same bytes.
+// A refused book leaves the basis as it was; a taken one is written out as the same bytes, and read again as the same basis.
 fn read_book(
     rt: &LibcRuntime,
     words: &mut SplitWhitespace<'_>,
@@ -94,10 +94,13 @@ fn read_book(
     }
     let mut buffer = [0u8; LONGEST_BOOK];
     let length = table.write(&mut buffer)?;
-    if &buffer[0..length] == book.as_slice() {
-        return Ok(Ok(census(&table)));
+    if &buffer[0..length] != book.as_slice() {
+        return Err("a book came back changed".into());
     }
-    Err("a book came back changed".into())
+    if census(&table.reread(&mut buffer)?) != census(&table) {
+        return Err("a basis came back changed".into());
+    }
+    Ok(Ok(census(&table)))
 }
 
 // Writes the first table basis into a buffer of a length: what lies past the book stays as it was.
@@ -128,20 +131,48 @@ fn line(words: &mut SplitWhitespace<'_>) -> Result<Result<u64, Fault>, AnyError>
     }
 }
 
+// The death chances of the whole population at the ages that are left of a line.
+fn print_deaths<B: Basis>(
+    rt: &LibcRuntime,
+    basis: &B,
+    words: &mut SplitWhitespace<'_>,
+) -> Result<(), AnyError> {
+    for word in words {
+        let age = word.parse::<u32>()?;
+        let figure = basis.figure(Kind::PopulationDeath, age);
+        println!(rt, "qg({age}) = {figure}")?;
+    }
+    Ok(())
+}
+
 // A shift over the straight line of final age 65 with no invalidity.
-fn shift(words: &mut SplitWhitespace<'_>) -> Result<Result<u64, Fault>, AnyError> {
+fn shift(
+    rt: &LibcRuntime,
+    words: &mut SplitWhitespace<'_>,
+) -> Result<Result<u64, Fault>, AnyError> {
     let below = StraightLine::new(65, 0)?;
     match Shift::new(i32::try_from(number(words)?)?) {
-        Ok(setting) => Ok(Ok(census(&setting.over(below)))),
+        Ok(setting) => {
+            let basis = setting.over(below);
+            print_deaths(rt, &basis, words)?;
+            Ok(Ok(census(&basis)))
+        }
         Err(fault) => Ok(Err(fault)),
     }
 }
 
 // A loading over it.
-fn loading(words: &mut SplitWhitespace<'_>) -> Result<Result<u64, Fault>, AnyError> {
+fn loading(
+    rt: &LibcRuntime,
+    words: &mut SplitWhitespace<'_>,
+) -> Result<Result<u64, Fault>, AnyError> {
     let below = StraightLine::new(65, 0)?;
     match Loading::new(unsigned(words)?) {
-        Ok(setting) => Ok(Ok(census(&setting.over(below)))),
+        Ok(setting) => {
+            let basis = setting.over(below);
+            print_deaths(rt, &basis, words)?;
+            Ok(Ok(census(&basis)))
+        }
         Err(fault) => Ok(Err(fault)),
     }
 }
@@ -176,8 +207,8 @@ fn answer_line(rt: &LibcRuntime, text: &str) -> Result<(), AnyError> {
         Some("book") => answer(rt, read_book(rt, &mut words)?),
         Some("buffer") => answer(rt, write_book(rt, usize::try_from(number(&mut words)?)?)?),
         Some("line") => answer(rt, line(&mut words)?),
-        Some("shift") => answer(rt, shift(&mut words)?),
-        Some("loading") => answer(rt, loading(&mut words)?),
+        Some("shift") => answer(rt, shift(rt, &mut words)?),
+        Some("loading") => answer(rt, loading(rt, &mut words)?),
         Some("piles") => piles(rt, &mut words),
         _ => Err("no such case".into()),
     }
@@ -192,31 +223,4 @@ fn main(rt: LibcRuntime) -> Result<(), AnyError> {
         }
     }
     Ok(())
-}
-
-#[cfg(test)]
-mod tests {
-    use super::*;
-    use fault::FaultDebug;
-    use std::test::*;
-
-    #[test]
-    fn a_shift_reads_the_next_age_on_its_side_of_the_final_age() -> Result<(), Fail> {
-        let basis = Shift::new(1)?.over(StraightLine::new(65, 0)?);
-        check_eq(basis.figure(Kind::PopulationDeath, 64), 17_543)?;
-        check_eq(basis.figure(Kind::PopulationDeath, 65), 18_181)
-    }
-
-    #[test]
-    fn a_loading_leaves_the_last_death_certain() -> Result<(), Fail> {
-        let basis = Loading::new(500)?.over(StraightLine::new(65, 0)?);
-        check_eq(basis.figure(Kind::PopulationDeath, 120), 1_000_000)
-    }
-
-    #[test]
-    fn a_table_written_out_and_read_is_the_same() -> Result<(), Fail> {
-        let table = Table::new();
-        let mut buffer = [0u8; LONGEST_BOOK];
-        check_eq(census(&table.reread(&mut buffer)?), census(&table))
-    }
 }

@@ -8,15 +8,15 @@ use basis::loading::Loading;
 use basis::shift::Shift;
 use basis::shift::Shifted;
 use basis::shift::ShiftedBasis;
-use basis::table::LONGEST_BOOK;
-use basis::table::Table;
-use basis::table::TableBasis;
 use fault::FaultDisplay;
 use fault::FaultError;
 use std::env;
 use std::error::AnyError;
 use std::fs;
 use std::io;
+use table::LONGEST_BOOK;
+use table::Table;
+use table::TableBasis;
 
 // The ages that are printed: some of working life, both sides of a final age of 65, and the last.
 const SHOWN: [u32; 7] = [20, 40, 60, 64, 65, 90, 120];

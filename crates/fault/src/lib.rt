@@ -162,3 +162,23 @@ pub impl fmt::Display for Fault as FaultDisplay {
 }
 
 pub impl Error for Fault as FaultError {}
+
+#[cfg(test)]
+mod tests {
+    use super::*;
+    use std::test::*;
+
+    #[test]
+    fn a_fault_is_printed_in_five_words(rt: LibcRuntime) -> Result<(), Fail> {
+        let amount = Fault::new(Refusal::Amount, 3, 0);
+        check_eq(
+            format!(rt.alloc(), "{amount}")?.as_str(),
+            "16 amount valuation 3 0",
+        )?;
+        let end = Fault::new(Refusal::OpenEnd, 5, 120);
+        check_eq(
+            format!(rt.alloc(), "{end}")?.as_str(),
+            "9 open-end book 5 120",
+        )
+    }
+}
