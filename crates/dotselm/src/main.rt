@@ -1,4 +1,5 @@
-// A first tour of a basis: reads a table book, lays an age shift and a loading over it, and goes round with its bytes.
+// Reads a table book, lays an age shift and a loading over it, goes round with its bytes, and says of promises whether
+// they would be taken.
 use basis::interface::Basis;
 use basis::kind::Kind;
 use basis::kind::KindDisplay;
@@ -8,15 +9,21 @@ use basis::loading::Loading;
 use basis::shift::Shift;
 use basis::shift::Shifted;
 use basis::shift::ShiftedBasis;
+use fault::Fault;
 use fault::FaultDisplay;
 use fault::FaultError;
 use std::env;
 use std::error::AnyError;
 use std::fs;
 use std::io;
+use std::str::SplitWhitespace;
 use table::LONGEST_BOOK;
 use table::Table;
 use table::TableBasis;
+use valuation::admission::LEAST_COLUMN;
+use valuation::admission::check_promise;
+use valuation::benefit::Benefit;
+use valuation::terms::Terms;
 
 // The ages that are printed: some of working life, both sides of a final age of 65, and the last.
 const SHOWN: [u32; 7] = [20, 40, 60, 64, 65, 90, 120];
@@ -64,7 +71,7 @@ fn print_figures<B: Basis>(rt: &LibcRuntime, basis: &B) -> io::Result<()> {
     Ok(())
 }
 
-fn pile(table: Table, shift: Shift, loading: Loading) -> Loaded<Shifted<Table>> {
+fn lay(table: Table, shift: Shift, loading: Loading) -> Loaded<Shifted<Table>> {
     loading.over(shift.over(table))
 }
 
@@ -111,6 +118,82 @@ fn show_damages(rt: &LibcRuntime, book: &[u8]) -> Result<(), AnyError> {
     Ok(())
 }
 
+// Yearly amounts, each word `A`, or `N*A` for N times A.
+fn read_amounts(rt: &LibcRuntime, words: SplitWhitespace<'_>) -> Result<Vec<u32>, AnyError> {
+    let mut amounts = Vec::new(rt.alloc());
+    for word in words {
+        let (times, amount) = word.split_once('*').unwrap_or(("1", word));
+        let amount = amount.parse::<u32>()?;
+        for _ in 0..times.parse::<u16>()? {
+            amounts.push(amount)?;
+        }
+    }
+    Ok(amounts)
+}
+
+// A promise of the input, under its terms.
+#[derive(Drop)]
+struct Asked {
+    interest: u32,
+    instalments: u32,
+    benefit: Benefit,
+    age: u32,
+    amounts: Vec<u32>,
+}
+
+// A line `INTEREST INSTALMENTS BENEFIT AGE AMOUNTS`.
+fn read_promise(rt: &LibcRuntime, line: &str) -> Result<Asked, AnyError> {
+    let mut words = line.split_whitespace();
+    Ok(Asked {
+        interest: words.next().ok_or("no interest")?.parse::<u32>()?,
+        instalments: words.next().ok_or("no instalments")?.parse::<u32>()?,
+        benefit: Benefit::from_name(words.next().ok_or("no benefit")?).ok_or("no such benefit")?,
+        age: words.next().ok_or("no age")?.parse::<u32>()?,
+        amounts: read_amounts(rt, words)?,
+    })
+}
+
+fn consider<B: Basis>(basis: &B, asked: &Asked) -> Result<(), Fault> {
+    let _terms = Terms::new(asked.interest, asked.instalments)?;
+    let column = [0u64; LEAST_COLUMN];
+    check_promise(
+        basis,
+        asked.benefit,
+        asked.age,
+        asked.amounts.as_slice(),
+        &column,
+    )
+}
+
+// Its ages and span, and whether it would be taken.
+fn answer_promise<B: Basis>(rt: &LibcRuntime, basis: &B, asked: &Asked) -> io::Result<()> {
+    let name = asked.benefit.name();
+    let final_age = basis.final_age();
+    let first = asked.benefit.first_age(final_age);
+    let last = asked.benefit.last_age(final_age);
+    let span = asked.benefit.span(final_age, asked.age);
+    let age = asked.age;
+    print!(
+        rt,
+        "{name} from {first} to {last}, at {age} {span} amounts: "
+    )?;
+    match consider(basis, asked) {
+        Ok(()) => println!(rt, "taken"),
+        Err(fault) => println!(rt, "refused {fault}"),
+    }
+}
+
+fn answer_promises<B: Basis>(rt: &LibcRuntime, basis: &B) -> Result<(), AnyError> {
+    println!(rt, "promises:")?;
+    for line in rt.lines(rt.alloc()) {
+        match read_promise(rt, line?.as_str()) {
+            Ok(asked) => answer_promise(rt, basis, &asked)?,
+            Err(error) => println!(rt, "error {error}")?,
+        }
+    }
+    Ok(())
+}
+
 fn run(rt: &LibcRuntime) -> Result<(), AnyError> {
     let order = read_order(rt)?;
     let book = fs::read(rt, order.book.as_str())?;
@@ -128,10 +211,12 @@ fn run(rt: &LibcRuntime) -> Result<(), AnyError> {
         rt,
         "under a shift of {years} and a loading of {thousandths}:"
     )?;
-    print_figures(rt, &pile(table, shift, loading))?;
+    let pile = lay(table, shift, loading);
+    print_figures(rt, &pile)?;
     go_round(rt, book.as_slice(), order.copy.as_str())?;
     println!(rt, "damaged books:")?;
-    show_damages(rt, book.as_slice())
+    show_damages(rt, book.as_slice())?;
+    answer_promises(rt, &pile)
 }
 
 fn main(rt: LibcRuntime) -> Result<(), AnyError> {

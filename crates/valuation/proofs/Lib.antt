@@ -1,0 +1,4 @@
+pub mod Fractions
+pub mod Backward
+pub mod Named
+pub mod Table
