@@ -2,3 +2,11 @@ pub mod Fractions
 pub mod Backward
 pub mod Named
 pub mod Table
+pub mod Enclosures
+pub mod Rating
+pub mod Running
+pub mod Cents
+pub mod Levels
+pub mod Years
+pub mod Shares
+pub mod Pairing

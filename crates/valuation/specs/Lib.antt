@@ -5,3 +5,7 @@ pub mod Benefits
 pub mod Exact
 pub mod Admission
 pub mod Known
+pub mod Fixed
+pub mod Rates
+pub mod Pair
+pub mod Enclosure
