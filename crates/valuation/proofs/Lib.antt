@@ -10,3 +10,4 @@ pub mod Levels
 pub mod Years
 pub mod Shares
 pub mod Pairing
+pub mod Added

@@ -10,6 +10,7 @@ use Rattle.valuation.specs.Exact.{paid}
 use Rattle.valuation.specs.Fixed.{scale, fixed, product, Stands}
 use Rattle.valuation.specs.Rates.{added, discountNumber, partDen, lossNumber, keptNumber, paidNumber}
 use Rattle.valuation.proofs.Fractions.{same-sym, same-add, same-trans, proper-add, proper-mul}
+use Rattle.valuation.proofs.Levels.{stands-small}
 use Rattle.valuation.proofs.Enclosures.{stands-fixed, stands-sum, stands-same, stands-wider, stands-product}
 
 -- a sum of quotients
@@ -127,6 +128,9 @@ paid-is K R s proper year small = paid-numbers (K .num) (K .den) (R .num) (R .de
 at-most-one : (K R : Fraction) → Proper R → K ⊕ R ≈ one → K .num ≤ K .den
 at-most-one K R proper year = le-of-mul-le-mul-right {k = R .den} (omega (arith, simp (one-mul, mul-one) at year)) proper
 
+other-at-most-one : (K R : Fraction) → Proper K → K ⊕ R ≈ one → R .num ≤ R .den
+other-at-most-one K R proper year = le-of-mul-le-mul-right {k = K .den} (omega (arith, simp (one-mul, mul-one) at year)) proper
+
 pub loss-proper : (interest t : ℕ) → 0 < t → Proper (loss interest t)
 loss-proper interest t h =
     mul-pos (mul-pos (omega arith) h) (proper-total t 0 (λ m. whole m ⊘ (whole t ⊕ (whole m ⊗ yearly interest))) (λ m. omega (arith, mul-le-mul-left 10000 h)))
@@ -157,3 +161,13 @@ stands-chance q = stands-fixed q 1000000 (omega arith)
 pub stands-discounted : (interest : ℕ) (p : Fraction) (n : ℕ) → p .num ≤ p .den → n ≤ scale → Stands n p 1 → Stands (product (discountNumber interest) n) (discount interest ⊗ p) 3
 stands-discounted interest p n small bound s =
     stands-product (discountNumber interest) n (discount interest) p 1 1 1 (omega arith) (omega arith) (stands-fixed 10000 (10000 + interest) (omega arith)) s
+
+-- the numbers of K and of 1 − K are at most the scale
+pub loss-below : (interest t : ℕ) → 0 < t → lossNumber interest t ≤ scale
+loss-below interest t h =
+    stands-small (lossNumber interest t) (loss interest t) t (loss-proper interest t h) (at-most-one (loss interest t) (kept interest t) (kept-proper interest t h) (lost-kept interest t h)) (stands-loss interest t h)
+
+pub kept-below : (interest t : ℕ) → 0 < t → keptNumber interest t ≤ scale
+kept-below interest t h =
+    let small = other-at-most-one (loss interest t) (kept interest t) (loss-proper interest t h) (lost-kept interest t h) in
+    stands-small (keptNumber interest t) (kept interest t) t (kept-proper interest t h) small (stands-kept interest t h)

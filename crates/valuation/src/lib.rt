@@ -4,4 +4,5 @@ pub mod benefit;
 mod fixed;
 pub mod known;
 pub mod pair;
+mod rates;
 pub mod terms;

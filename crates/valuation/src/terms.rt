@@ -12,8 +12,8 @@ pub const GREATEST_INTEREST: u32 = 2000;
 
 #[derive(Clone, Copy)]
 pub struct Terms {
-    interest: u32,
-    instalments: u32,
+    pub(crate) interest: u32,
+    pub(crate) instalments: u32,
     ghost modest: { interest ≤ 2000 },
     ghost usual: { listed instalments ≡ true },
 }
