@@ -11,3 +11,4 @@ pub mod Years
 pub mod Shares
 pub mod Pairing
 pub mod Added
+pub mod Runs

@@ -4,5 +4,6 @@ pub mod benefit;
 mod fixed;
 pub mod known;
 pub mod pair;
+mod path;
 mod rates;
 pub mod terms;
