@@ -36,8 +36,8 @@ kept-small interest t m h = omega (arith, mul-le-mul-right (10000 * t) h)
 pub whole-bound : (interest t m : ℕ) → interest ≤ 2000 → t ≤ 12 → m < t → t * (10000 * t + m * interest) ≤ 2000000
 whole-bound interest t m h few l = omega (arith, mul-le-mul few few, mul-le-mul few (mul-le-mul (omega-lt m t l few) h))
   where
-  omega-lt : (m t : ℕ) → m < t → t ≤ 12 → m ≤ 12
-  omega-lt m t l few = omega arith
+    omega-lt : (m t : ℕ) → m < t → t ≤ 12 → m ≤ 12
+    omega-lt m t l few = omega arith
 
 pub fixed-small : (n d : ℕ) → n ≤ d → fixed n d ≤ scale
 fixed-small n d h = div-le-of-le-mul d (mul-le-mul-right scale h)

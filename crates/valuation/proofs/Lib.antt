@@ -12,3 +12,4 @@ pub mod Shares
 pub mod Pairing
 pub mod Added
 pub mod Runs
+pub mod Descents

@@ -48,24 +48,25 @@ part-bound : (a : ℕ) → a ≤ 1000000 → weight a * 8388608 / scale ≤ 1220
 part-bound a h = div-le-of-le-mul scale (omega arith)
 
 pub run-more : (s l : ℕ → ℕ) (amounts : List ℕ) (k low short share surv : ℕ) → 0 < k → k ≤ length amounts → getD amounts (k - 1) 0 ≤ 1000000 → share ≡ l (k - 1) → surv ≡ s (k - 1) → share ≤ 250 * scale → surv ≤ scale
-  → Run s l amounts k low short
-  → Run s l amounts (k - 1) (product (weight (getD amounts (k - 1) 0)) share + product surv low) (short + (weight (getD amounts (k - 1) 0) * 8388608 / scale + 4))
+    → Run s l amounts k low short
+    → Run s l amounts (k - 1) (product (weight (getD amounts (k - 1) 0)) share + product surv low) (short + (weight (getD amounts (k - 1) 0) * 8388608 / scale + 4))
 run-more s l amounts k low short share surv pos inside small es ev modest below run =
     let w : ℕ → ℕ = λ j. weight (getD amounts j 0) in
     let n = length amounts in
     let j = k - 1 in
     let years : n - j ≡ suc (n - k) = omega arith in
-    let next : suc j ≡ k = omega arith in
-    (ap (λ x. product (w j) x + product surv low) es ∙ ap (λ x. product (w j) (l j) + product x low) ev ∙ ap (λ x. product (w j) (l j) + product (s j) x) (run .0 ∙ ap (running s l w (n - k)) (sym next))
-       ∙ sym (ap (λ m. running s l w m j) years ∙ running-more s l w (n - k) j),
-     ap (λ x. x + (w j * 8388608 / scale + 4)) (run .1 ∙ ap (slack w (n - k)) (sym next)) ∙ sym (add-assoc (slack w (n - k) (suc j)) (w j * 8388608 / scale) 4) ∙ sym (ap (λ m. slack w m j) years ∙ slack-more w (n - k) j),
-     omega (arith, run .2, year-bound (getD amounts j 0) share small modest, shrinks surv low below),
-     omega (arith, run .3, part-bound (getD amounts j 0) small))
+    let next : suc j ≡ k = omega arith in (
+      ap (λ x. product (w j) x + product surv low) es ∙ ap (λ x. product (w j) (l j) + product x low) ev ∙ ap (λ x. product (w j) (l j) + product (s j) x) (run .0 ∙ ap (running s l w (n - k)) (sym next))
+          ∙ sym (ap (λ m. running s l w m j) years ∙ running-more s l w (n - k) j),
+      ap (λ x. x + (w j * 8388608 / scale + 4)) (run .1 ∙ ap (slack w (n - k)) (sym next)) ∙ sym (add-assoc (slack w (n - k) (suc j)) (w j * 8388608 / scale) 4) ∙ sym (ap (λ m. slack w m j) years ∙ slack-more w (n - k) j),
+      omega (arith, run .2, year-bound (getD amounts j 0) share small modest, shrinks surv low below),
+      omega (arith, run .3, part-bound (getD amounts j 0) small),
+    )
 
 -- the same, of the numbers that the code has
 pub run-year : (s l : ℕ → ℕ) (amounts : List ℕ) (k low short share surv this later : ℕ) → 0 < k → k ≤ length amounts → getD amounts (k - 1) 0 ≤ 1000000 → share ≡ l (k - 1) → surv ≡ s (k - 1) → share ≤ 250 * scale → surv ≤ scale
-  → this ≡ product (weight (getD amounts (k - 1) 0)) share → later ≡ product surv low → Run s l amounts k low short
-  → Run s l amounts (k - 1) (this + later) (short + (weight (getD amounts (k - 1) 0) * 8388608 / scale + 4))
+    → this ≡ product (weight (getD amounts (k - 1) 0)) share → later ≡ product surv low → Run s l amounts k low short
+    → Run s l amounts (k - 1) (this + later) (short + (weight (getD amounts (k - 1) 0) * 8388608 / scale + 4))
 run-year s l amounts k low short share surv this later pos inside small es ev modest below et el run =
     let next = run-more s l amounts k low short share surv pos inside small es ev modest below run in
     (ap (λ x. x + later) et ∙ ap (λ x. product (weight (getD amounts (k - 1) 0)) share + x) el ∙ next .0, next .1, omega (arith, et, el, next .2), next .3)

@@ -30,7 +30,7 @@ discount-small interest = omega arith
 discount-stands : (interest : ℕ) → Stands (discountNumber interest) (discount interest) 1
 discount-stands interest = stands-fixed 10000 (10000 + interest) (omega arith)
 
-discount-below : (interest : ℕ) → discountNumber interest ≤ scale
+pub discount-below : (interest : ℕ) → discountNumber interest ≤ scale
 discount-below interest = stands-small (discountNumber interest) (discount interest) 1 (discount-proper interest) (discount-small interest) (discount-stands interest)
 
 module _ (f : Figures) (lawful : Lawful f) (interest t : ℕ) (some : 0 < t) (few : t ≤ 12) where

@@ -1,6 +1,7 @@
 // Present values: terms, the sixteen benefits, and what a valuation is refused for.
 pub mod admission;
 pub mod benefit;
+mod columns;
 mod fixed;
 pub mod known;
 pub mod pair;

@@ -29,7 +29,12 @@ pub(crate) trait Path<B: Basis> {
 }
 
 // The sum in units of 2^-20 cents, from the last year to the first, and by how much it may fall short.
-pub(crate) fn run<B: Basis, P: Path<B>>(path: &P, basis: &B, column: &[u64], amounts: &[u32]) -> (u64, u64)
+pub(crate) fn run<B: Basis, P: Path<B>>(
+    path: &P,
+    basis: &B,
+    column: &[u64],
+    amounts: &[u32],
+) -> (u64, u64)
     requires { ⌜ ready (now path) (now basis) (now column) ⌝ ∗ ⌜ length (now amounts) ≤ 121 ⌝ ∗ ⌜ ((k : ℕ) → getD (now amounts) k 0 ≤ 1000000) ⌝ }
     ensures { λ r. ⌜ (r .0 ≡ running (survivals (now (path .entry)) (now (basis .entry))) (shares (now (path .entry)) (now (basis .entry))) (λ k. weight (getD (now (amounts .entry)) k 0)) (length (now (amounts .entry))) 0) × (r .1 ≡ slack (λ k. weight (getD (now (amounts .entry)) k 0)) (length (now (amounts .entry))) 0) ⌝ }
 {

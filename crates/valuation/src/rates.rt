@@ -57,7 +57,8 @@ impl Rates {
 
     // The discounted chance of a life to go on for another year: v·p.
     pub(crate) fn goes_on<B: Basis>(&self, basis: &B, kind: Kind, age: u32) -> u64
-        ensures { λ r. ⌜ r ≡ goesOn (figures (now (basis .entry))) (now (self .entry) .interest) (now (self .entry) .instalments) kind age ⌝ }
+        ensures below { λ r. ⌜ r ≤ scale ⌝ }
+        ensures value { λ r. ⌜ r ≡ goesOn (figures (now (basis .entry))) (now (self .entry) .interest) (now (self .entry) .instalments) kind age ⌝ }
     {
         product(self.discount, opposite(basis.figure(kind, age)))
     }

@@ -11,5 +11,13 @@ product-requires c κs =
 pub add-result : need.add-result
 add-result c =
     let rates = c .args .self .now in
-    omega (arith, rates .lost, rates .rest, loss-below (rates .interest) (rates .instalments) (rates .some), kept-below (rates .interest) (rates .instalments) (rates .some),
-      c .product .ensures, shrinks (rates .loss) (c .args .survival) (omega (arith, rates .lost, loss-below (rates .interest) (rates .instalments) (rates .some))), c .pre)
+    omega (
+      arith,
+      rates .lost,
+      rates .rest,
+      loss-below (rates .interest) (rates .instalments) (rates .some),
+      kept-below (rates .interest) (rates .instalments) (rates .some),
+      c .product .ensures,
+      shrinks (rates .loss) (c .args .survival) (omega (arith, rates .lost, loss-below (rates .interest) (rates .instalments) (rates .some))),
+      c .pre,
+    )
