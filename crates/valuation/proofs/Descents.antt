@@ -12,7 +12,6 @@ use Rattle.basis.specs.declared.kind.Kind.{Kind}
 use Rattle.basis.specs.Figures.{Figures}
 use Rattle.valuation.specs.Fixed.{scale, product}
 use Rattle.valuation.specs.Pair.{running, goesOn, levelNumber}
-use Rattle.valuation.proofs.Levels.{shrinks}
 
 -- a sum from a later year on is the sum from year 0 of a path that begins then
 shifted-running : (s l : ℕ → ℕ) (x n j : ℕ) → running (λ k. s (x + k)) (λ k. l (x + k)) (λ _. scale) n (suc j) ≡ running (λ k. s (x + 1 + k)) (λ k. l (x + 1 + k)) (λ _. scale) n j
@@ -41,31 +40,26 @@ level-end f interest t b l x h = let none : 121 - x ≡ 0 = omega arith in ap (�
 
 -- the ages from k on are filled, and later is the value at k
 abbrev pub Down : (ℕ → ℕ) → List ℕ → ℕ → ℕ → Type 0
-Down value column k later = (121 ≤ length column) × (later ≡ value k) × (later ≤ (121 - k) * scale) × ((x : ℕ) → k ≤ x → x < 121 → getD column x 0 ≡ value x)
+Down value column k later = (121 ≤ length column) × (later ≡ value k) × ((x : ℕ) → k ≤ x → x < 121 → getD column x 0 ≡ value x)
 
 pub down-none : (value : ℕ → ℕ) (column : List ℕ) → 121 ≤ length column → value 121 ≡ 0 → Down value column 121 0
-down-none value column long end = (long, sym end, omega arith, λ x low high. absurd (omega arith))
+down-none value column long end = (long, sym end, λ x low high. absurd (omega arith))
 
-pub down-more : (value : ℕ → ℕ) (column : List ℕ) (k later next : ℕ) → 0 < k → k ≤ 121 → next ≡ value (k - 1) → next ≤ scale + later → Down value column k later → Down value (set column (k - 1) next) (k - 1) next
-down-more value column k later next some few same bound down =
+pub down-more : (value : ℕ → ℕ) (column : List ℕ) (k later next : ℕ) → 0 < k → k ≤ 121 → next ≡ value (k - 1) → Down value column k later → Down value (set column (k - 1) next) (k - 1) next
+down-more value column k later next some few same down =
     let j = k - 1 in
-    let inside : j < length column = omega (arith, down .0) in (
-      omega (arith, down .0, length-set column j next),
-      same,
-      omega (arith, down .2),
-      λ x low high. ⊎-elim
-          (λ e. ap (λ y. getD (set column j next) y 0) e ∙ getD-set-same column j next 0 inside ∙ same ∙ ap value (sym e))
-          (λ ne. getD-set-other column j x next 0 ne ∙ down .3 x (omega (arith, ne)) high)
-          (cases-eq x j),
-    )
+    let inside : j < length column = omega (arith, down .0) in
+    (omega (arith, down .0, length-set column j next), same,
+     λ x low high. ⊎-elim
+       (λ e. ap (λ y. getD (set column j next) y 0) e ∙ getD-set-same column j next 0 inside ∙ same ∙ ap value (sym e))
+       (λ ne. getD-set-other column j x next 0 ne ∙ down .2 x (omega (arith, ne)) high)
+       (cases-eq x j))
 
--- a column of annuities, one age on: goes and later are the numbers that the code has
-pub annuity-more : (f : Figures) (interest t : ℕ) (b : Kind) (column : List ℕ) (k later goes part : ℕ) → 0 < k → k ≤ 121 → goes ≡ goesOn f interest t b (k - 1) → goes ≤ scale → part ≡ product goes later
-    → Down (levelNumber f interest t b (λ y. scale)) column k later → Down (levelNumber f interest t b (λ y. scale)) (set column (k - 1) (scale + part)) (k - 1) (scale + part)
-annuity-more f interest t b column k later goes part some few eg below ep down =
-    let value = levelNumber f interest t b (λ y. scale) in
+-- the number that the code has at the next age down
+pub next-value : (f : Figures) (interest t : ℕ) (b : Kind) (l : ℕ → ℕ) (k later share goes part : ℕ) → 0 < k → k ≤ 121 → share ≡ l (k - 1) → goes ≡ goesOn f interest t b (k - 1) → part ≡ product goes later
+  → later ≡ levelNumber f interest t b l k → share + part ≡ levelNumber f interest t b l (k - 1)
+next-value f interest t b l k later share goes part some few es eg ep el =
+    let value = levelNumber f interest t b l in
     let j = k - 1 in
     let next : j + 1 ≡ k = omega arith in
-    let same : scale + part ≡ value j =
-    ap (λ r. scale + r) (ep ∙ ap (λ g. product g later) eg ∙ ap (product (goesOn f interest t b j)) (down .1 ∙ ap value (sym next))) ∙ sym (level-step f interest t b (λ y. scale) j (omega arith)) in
-    down-more value column k later (scale + part) some few same (omega (arith, ep, shrinks goes later below)) down
+    ap (λ s. s + part) es ∙ ap (λ r. l j + r) (ep ∙ ap (λ g. product g later) eg ∙ ap (product (goesOn f interest t b j)) (el ∙ ap value (sym next))) ∙ sym (level-step f interest t b l j (omega arith))

@@ -13,6 +13,9 @@ use Rattle.valuation.specs.Exact.{half, paid, chance, lives, stays, level, ann
 use Rattle.valuation.specs.Fixed.{scale, fixed, product, Stands}
 use Rattle.valuation.specs.Rates.{discountNumber, lossNumber, keptNumber, chanceNumber, livesNumber, paidNumber}
 use Rattle.valuation.specs.Pair.{running, halfNumber, soonerNumber, goesOn, staysOn, toNextYear, levelNumber, annuityNumber, widNumber, leftNumber, pensionNumber, widowedNumber, turningInvalidNumber, turningInvalidWidowNumber}
+use Rattle.valuation.specs.declared.level.Level.{Level}
+use Rattle.valuation.specs.declared.level.Level.the-variants.{Annuities, Pensions, Widows}
+use Rattle.valuation.specs.Columns.{levelOf}
 use Rattle.valuation.proofs.Fractions.{proper-add, proper-mul}
 use Rattle.valuation.proofs.Enclosures.{stands-fixed, stands-sum, stands-same, stands-wider, stands-product}
 use Rattle.valuation.proofs.Rating.{stands-paid, stands-discounted, loss-proper}
@@ -99,7 +102,7 @@ module _ (f : Figures) (lawful : Lawful f) (interest t : ℕ) (some : 0 < t) (fe
   annuity-stands : (b : Kind) (x : ℕ) → Stands (annuityNumber f interest t b x) (annuity f interest t backward b x) 44044
   annuity-stands b x = level-stands b (λ y. scale) (λ y. one) 0 (λ y. record { low = omega arith; high = omega arith }) (ones-bound b (λ y. scale) (λ y. omega arith)) x
 
-  annuity-bound : (b : Kind) (x : ℕ) → annuityNumber f interest t b x ≤ 121 * scale
+  pub annuity-bound : (b : Kind) (x : ℕ) → annuityNumber f interest t b x ≤ 121 * scale
   unfolding levelNumber
   annuity-bound b x = ones-bound b (λ y. scale) (λ y. omega arith) x (121 - x) 0 (omega arith)
 
@@ -285,3 +288,9 @@ module _ (f : Figures) (lawful : Lawful f) (interest t : ℕ) (some : 0 < t) (fe
       (proper-add (discount interest ⊗ h ⊗ W) ((one ⊖ h) ⊗ left f interest t backward x)
       (proper-mul (discount interest ⊗ h) W (next-proper InvalidDeath x) (widows-proper InvalidDeath (x + 1)))
       (proper-mul (one ⊖ h) (left f interest t backward x) (mul-pos (omega arith) h-proper) (left-proper x)))
+
+  -- no value of amount 1 a year is above 121
+  pub levels-bound : (b : Kind) (level : Level) (x : ℕ) → levelOf f interest t b level x ≤ 121 * scale
+  levels-bound b Annuities x = annuity-bound b x
+  levels-bound b Pensions x = pensions-bound b x
+  levels-bound b Widows x = widows-bound b x

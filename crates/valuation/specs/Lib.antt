@@ -9,3 +9,4 @@ pub mod Fixed
 pub mod Rates
 pub mod Pair
 pub mod Enclosure
+pub mod Columns

@@ -1,25 +1,69 @@
-// The working column: yearly annuities at every age, which widows' and invalids' shares read.
+// The working column: what widows' and invalids' shares read, a value at each age.
 ghost use mathlib.Core.Path.{_≡_};
-ghost use Prim.Native.Nat.{ℕ, _≤_, _<_};
-ghost use lib.ListN.{getD, length};
-ghost use Rattle.valuation.specs.Pair.{annuityNumber};
+ghost use Prim.Native.Nat.{_≤_};
+ghost use lib.ListN.{length};
+ghost use Rattle.valuation.specs.Columns.{Filled, Reads, WidowsFirst, levelOf, levelShare};
+ghost use Rattle.valuation.specs.Pair.{leftNumber, widNumber, widowedNumber};
 use crate::fixed::SCALE;
+use crate::fixed::fixed;
 use crate::fixed::product;
+use crate::level::Level;
 use crate::rates::Rates;
 use basis::interface::Basis;
+use basis::kind::CERTAIN;
 use basis::kind::Kind;
 
 // How many numbers one quantity takes: one for each age.
 pub(crate) const AGES: usize = 121;
 
-// Fills the first places with the annuities of a population, age by age, from the last age down.
-pub(crate) fn fill_annuities<B: Basis>(rates: &Rates, basis: &B, kind: Kind, column: &mut [u64])
-    requires { ⌜ 121 ≤ length (now column) ⌝ }
-    ensures { λ _. ⌜ ((x : ℕ) → x < 121 → getD (now (column .exit)) x 0 ≡ annuityNumber (figures (now (basis .entry))) (now (rates .entry) .interest) (now (rates .entry) .instalments) kind x) ⌝ }
+// The widow's pension that a death leaves, for a widow aged y.
+fn wid<B: Basis>(rates: &Rates, basis: &B, widows: &[u64], y: u32) -> u64
+    requires { ⌜ WidowsFirst (figures (now basis)) (now rates .interest) (now rates .instalments) (now widows) ⌝ ∗ ⌜ y ≤ 120 ⌝ }
+    ensures { λ r. ⌜ r ≡ widNumber (figures (now (basis .entry))) (now (rates .entry) .interest) (now (rates .entry) .instalments) y ⌝ }
+{
+    let next = if y == 120 { 0 } else { widows[y as usize + 1] };
+    product(rates.to_next_year(basis, Kind::WidowDeath, y), next)
+}
+
+// The same for whoever dies at an age, married or not.
+fn left<B: Basis>(rates: &Rates, basis: &B, widows: &[u64], age: u32) -> u64
+    requires { ⌜ WidowsFirst (figures (now basis)) (now rates .interest) (now rates .instalments) (now widows) ⌝ }
+    ensures { λ r. ⌜ r ≡ leftNumber (figures (now (basis .entry))) (now (rates .entry) .interest) (now (rates .entry) .instalments) age ⌝ }
+{
+    let married = fixed(basis.figure(Kind::Married, age) as u64, CERTAIN as u64);
+    product(married, wid(rates, basis, widows, basis.figure(Kind::SpouseAge, age)))
+}
+
+// The share of a population's deaths at an age.
+pub(crate) fn widowed<B: Basis>(rates: &Rates, basis: &B, widows: &[u64], kind: Kind, age: u32) -> u64
+    requires { ⌜ WidowsFirst (figures (now basis)) (now rates .interest) (now rates .instalments) (now widows) ⌝ }
+    ensures { λ r. ⌜ r ≡ widowedNumber (figures (now (basis .entry))) (now (rates .entry) .interest) (now (rates .entry) .instalments) kind age ⌝ }
+{
+    let dying = fixed(basis.figure(kind, age) as u64, CERTAIN as u64);
+    product(dying, left(rates, basis, widows, age))
+}
+
+// The yearly share of a value of amount 1 a year.
+fn level_share<B: Basis>(rates: &Rates, basis: &B, widows: &[u64], kind: Kind, level: Level, age: u32) -> u64
+    requires { ⌜ Reads (figures (now basis)) (now rates .interest) (now rates .instalments) level (now widows) ⌝ }
+    ensures { λ r. ⌜ r ≡ levelShare (figures (now (basis .entry))) (now (rates .entry) .interest) (now (rates .entry) .instalments) kind level age ⌝ }
+{
+    match level {
+        Level::Annuities => SCALE,
+        Level::Pensions => rates.pension(basis, kind, age),
+        Level::Widows => widowed(rates, basis, widows, kind, age),
+    }
+}
+
+// Fills the first places of a column with a value of amount 1 a year at each age, from the last age down.
+pub(crate) fn fill<B: Basis>(rates: &Rates, basis: &B, widows: &[u64], kind: Kind, level: Level, column: &mut [u64])
+    requires { ⌜ Reads (figures (now basis)) (now rates .interest) (now rates .instalments) level (now widows) ⌝ ∗ ⌜ 121 ≤ length (now column) ⌝ }
+    ensures { λ _. ⌜ Filled (levelOf (figures (now (basis .entry))) (now (rates .entry) .interest) (now (rates .entry) .instalments) kind level) (now (column .exit)) ⌝ }
 {
     let mut later = 0;
     for age in (0..AGES).rev() {
-        later = SCALE + product(rates.goes_on(basis, kind, age as u32), later);
+        let share = level_share(rates, basis, widows, kind, level, age as u32);
+        later = share + product(rates.goes_on(basis, kind, age as u32), later);
         column[age] = later;
     }
 }

@@ -5,6 +5,7 @@ mod columns;
 mod fixed;
 pub mod known;
 pub mod pair;
+mod level;
 mod path;
 mod rates;
 pub mod terms;

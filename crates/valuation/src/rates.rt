@@ -2,7 +2,7 @@
 ghost use mathlib.Core.Path.{_≡_};
 ghost use Prim.Native.Nat.{_≤_, _<_};
 ghost use Rattle.valuation.specs.Fixed.{scale};
-ghost use Rattle.valuation.specs.Pair.{goesOn, halfNumber, staysOn, toNextYear};
+ghost use Rattle.valuation.specs.Pair.{goesOn, halfNumber, pensionNumber, staysOn, toNextYear};
 ghost use Rattle.valuation.specs.Rates.{discountNumber, keptNumber, livesNumber, lossNumber, paidNumber};
 use crate::fixed::fixed;
 use crate::fixed::product;
@@ -23,6 +23,7 @@ pub(crate) struct Rates {
     ghost lost: { loss ≡ lossNumber interest instalments },
     ghost rest: { kept ≡ keptNumber interest instalments },
     ghost some: { 0 < instalments },
+    ghost few: { instalments ≤ 12 },
 }
 
 // K and 1 − K of t instalments.
@@ -65,7 +66,8 @@ impl Rates {
 
     // The discounted chance of an active to be one for another year.
     pub(crate) fn stays_on<B: Basis>(&self, basis: &B, age: u32) -> u64
-        ensures { λ r. ⌜ r ≡ staysOn (figures (now (basis .entry))) (now (self .entry) .interest) (now (self .entry) .instalments) age ⌝ }
+        ensures below { λ r. ⌜ r ≤ scale ⌝ }
+        ensures value { λ r. ⌜ r ≡ staysOn (figures (now (basis .entry))) (now (self .entry) .interest) (now (self .entry) .instalments) age ⌝ }
     {
         let able = CERTAIN - basis.figure(Kind::Invalidity, age);
         let staying = able - basis.figure(Kind::ActiveDeath, age);
@@ -80,9 +82,17 @@ impl Rates {
         self.kept + product(self.loss, survival)
     }
 
+    // A year's pension of a population at an age.
+    pub(crate) fn pension<B: Basis>(&self, basis: &B, kind: Kind, age: u32) -> u64
+        ensures { λ r. ⌜ r ≡ pensionNumber (figures (now (basis .entry))) (now (self .entry) .interest) (now (self .entry) .instalments) kind age ⌝ }
+    {
+        self.paid(self.goes_on(basis, kind, age))
+    }
+
     // The discounted chance to live from mid-year to the year's end: v·half.
     pub(crate) fn to_next_year<B: Basis>(&self, basis: &B, kind: Kind, age: u32) -> u64
-        ensures { λ r. ⌜ r ≡ toNextYear (figures (now (basis .entry))) (now (self .entry) .interest) (now (self .entry) .instalments) kind age ⌝ }
+        ensures below { λ r. ⌜ r ≤ scale ⌝ }
+        ensures value { λ r. ⌜ r ≡ toNextYear (figures (now (basis .entry))) (now (self .entry) .interest) (now (self .entry) .instalments) kind age ⌝ }
     {
         product(self.discount, half(basis.figure(kind, age)))
     }
