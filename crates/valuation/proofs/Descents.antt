@@ -11,6 +11,9 @@ use Rattle.std.proofs.shelf.Tests.{cases-eq}
 use Rattle.basis.specs.declared.kind.Kind.{Kind}
 use Rattle.basis.specs.Figures.{Figures}
 use Rattle.valuation.specs.Fixed.{scale, product}
+use Rattle.valuation.specs.declared.level.Level.{Level}
+use Rattle.valuation.specs.declared.level.Level.the-variants.{Annuities, Pensions, Widows}
+use Rattle.valuation.specs.Columns.{Apart, Reads}
 use Rattle.valuation.specs.Pair.{running, goesOn, levelNumber}
 
 -- a sum from a later year on is the sum from year 0 of a path that begins then
@@ -38,22 +41,35 @@ pub level-end : (f : Figures) (interest t : ℕ) (b : Kind) (l : ℕ → ℕ) (x
 unfolding levelNumber running
 level-end f interest t b l x h = let none : 121 - x ≡ 0 = omega arith in ap (λ n. running (λ k. goesOn f interest t b (x + k)) (λ k. l (x + k)) (λ _. scale) n 0) none
 
--- the ages from k on are filled, and later is the value at k
-abbrev pub Down : (ℕ → ℕ) → List ℕ → ℕ → ℕ → Type 0
-Down value column k later = (121 ≤ length column) × (later ≡ value k) × ((x : ℕ) → k ≤ x → x < 121 → getD column x 0 ≡ value x)
+-- the ages from k on are filled, from a place on; later is the value at k; and what was before the place is as it was
+pub record Down (value : ℕ → ℕ) (place : ℕ) (was column : List ℕ) (k later : ℕ) : Type 0 where
+  pub long : length column ≡ length was
+  pub here : later ≡ value k
+  pub done : (x : ℕ) → k ≤ x → x < 121 → getD column (place + x) 0 ≡ value x
+  pub before : (x : ℕ) → x < place → getD column x 0 ≡ getD was x 0
 
-pub down-none : (value : ℕ → ℕ) (column : List ℕ) → 121 ≤ length column → value 121 ≡ 0 → Down value column 121 0
-down-none value column long end = (long, sym end, λ x low high. absurd (omega arith))
+pub down-none : (value : ℕ → ℕ) (place : ℕ) (column : List ℕ) → value 121 ≡ 0 → Down value place column column 121 0
+down-none value place column end = record { long = refl; here = sym end; done = λ x low high. absurd (omega arith); before = λ x l. refl }
 
-pub down-more : (value : ℕ → ℕ) (column : List ℕ) (k later next : ℕ) → 0 < k → k ≤ 121 → next ≡ value (k - 1) → Down value column k later → Down value (set column (k - 1) next) (k - 1) next
-down-more value column k later next some few same down =
+pub down-more : (value : ℕ → ℕ) (place : ℕ) (was column : List ℕ) (k later next : ℕ) → 0 < k → k ≤ 121 → place + 121 ≤ length was → next ≡ value (k - 1) → Down value place was column k later → Down value place was (set column (place + (k - 1)) next) (k - 1) next
+down-more value place was column k later next some few room same down =
     let j = k - 1 in
-    let inside : j < length column = omega (arith, down .0) in
-    (omega (arith, down .0, length-set column j next), same,
-     λ x low high. ⊎-elim
-       (λ e. ap (λ y. getD (set column j next) y 0) e ∙ getD-set-same column j next 0 inside ∙ same ∙ ap value (sym e))
-       (λ ne. getD-set-other column j x next 0 ne ∙ down .2 x (omega (arith, ne)) high)
-       (cases-eq x j))
+    let inside : place + j < length column = omega (arith, down .long) in
+    record {
+      long = length-set column (place + j) next ∙ down .long;
+      here = same;
+      done = λ x low high. ⊎-elim
+        (λ e. ap (λ y. getD (set column (place + j) next) (place + y) 0) e ∙ getD-set-same column (place + j) next 0 inside ∙ same ∙ ap value (sym e))
+        (λ ne. getD-set-other column (place + j) (place + x) next 0 (λ e. ne (omega (arith, e))) ∙ down .done x (omega (arith, ne)) high)
+        (cases-eq x j);
+      before = λ x l. getD-set-other column (place + j) x next 0 (λ e. absurd (omega (arith, e))) ∙ down .before x l;
+    }
+
+-- what the loop reads stays
+pub reads-kept : (f : Figures) (interest t : ℕ) (level : Level) (place : ℕ) (was column : List ℕ) → Apart level place → length column ≡ length was → ((x : ℕ) → x < place → getD column x 0 ≡ getD was x 0) → Reads f interest t level was → Reads f interest t level column
+reads-kept f interest t Annuities place was column apart long before reads = tt
+reads-kept f interest t Pensions place was column apart long before reads = tt
+reads-kept f interest t Widows place was column apart long before reads = (omega (arith, long, reads .0), λ x l. before (0 + x) (omega arith) ∙ reads .1 x l)
 
 -- the number that the code has at the next age down
 pub next-value : (f : Figures) (interest t : ℕ) (b : Kind) (l : ℕ → ℕ) (k later share goes part : ℕ) → 0 < k → k ≤ 121 → share ≡ l (k - 1) → goes ≡ goesOn f interest t b (k - 1) → part ≡ product goes later

@@ -15,7 +15,7 @@ use Rattle.valuation.specs.Rates.{discountNumber, lossNumber, keptNumber, chan
 use Rattle.valuation.specs.Pair.{running, halfNumber, soonerNumber, goesOn, staysOn, toNextYear, levelNumber, annuityNumber, widNumber, leftNumber, pensionNumber, widowedNumber, turningInvalidNumber, turningInvalidWidowNumber}
 use Rattle.valuation.specs.declared.level.Level.{Level}
 use Rattle.valuation.specs.declared.level.Level.the-variants.{Annuities, Pensions, Widows}
-use Rattle.valuation.specs.Columns.{levelOf}
+use Rattle.valuation.specs.Columns.{levelOf, levelShare}
 use Rattle.valuation.proofs.Fractions.{proper-add, proper-mul}
 use Rattle.valuation.proofs.Enclosures.{stands-fixed, stands-sum, stands-same, stands-wider, stands-product}
 use Rattle.valuation.proofs.Rating.{stands-paid, stands-discounted, loss-proper}
@@ -294,3 +294,8 @@ module _ (f : Figures) (lawful : Lawful f) (interest t : ℕ) (some : 0 < t) (fe
   levels-bound b Annuities x = annuity-bound b x
   levels-bound b Pensions x = pensions-bound b x
   levels-bound b Widows x = widows-bound b x
+
+  pub level-shares-bound : (b : Kind) (level : Level) (x : ℕ) → levelShare f interest t b level x ≤ 121 * scale
+  level-shares-bound b Annuities x = omega arith
+  level-shares-bound b Pensions x = omega (arith, pension-bound b x)
+  level-shares-bound b Widows x = widowed-bound b x

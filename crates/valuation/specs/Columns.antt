@@ -1,7 +1,7 @@
 -- What the working column holds: a value at each age. Assumes nothing.
 use mathlib.Core.Path.{_≡_}
 use mathlib.Core.List.{List}
-use Prim.Native.Nat.{ℕ, _≤_, _<_}
+use Prim.Native.Nat.{ℕ, _+_, _≤_, _<_}
 use lib.ListN.{length, getD}
 use Rattle.basis.specs.declared.kind.Kind.{Kind}
 use Rattle.basis.specs.declared.kind.Kind.the-variants.{WidowDeath}
@@ -20,16 +20,22 @@ levelShare f interest t b Widows x = widowedNumber f interest t b x
 abbrev pub levelOf : Figures → ℕ → ℕ → Kind → Level → ℕ → ℕ
 levelOf f interest t b level x = levelNumber f interest t b (levelShare f interest t b level) x
 
--- a column begins with a value for each age
-abbrev pub Filled : (ℕ → ℕ) → List ℕ → Type 0
-Filled value column = (121 ≤ length column) × ((x : ℕ) → x < 121 → getD column x 0 ≡ value x)
+-- from a place on a column has a value for each age
+abbrev pub FilledAt : ℕ → (ℕ → ℕ) → List ℕ → Type 0
+FilledAt place value column = (place + 121 ≤ length column) × ((x : ℕ) → x < 121 → getD column (place + x) 0 ≡ value x)
 
 -- the annuities of widows stand first
 abbrev pub WidowsFirst : Figures → ℕ → ℕ → List ℕ → Type 0
-WidowsFirst f interest t column = Filled (annuityNumber f interest t WidowDeath) column
+WidowsFirst f interest t column = FilledAt 0 (annuityNumber f interest t WidowDeath) column
 
 -- what a value of amount 1 a year reads of them
 abbrev pub Reads : Figures → ℕ → ℕ → Level → List ℕ → Type 0
-Reads f interest t Annuities widows = Unit {0}
-Reads f interest t Pensions widows = Unit {0}
-Reads f interest t Widows widows = WidowsFirst f interest t widows
+Reads f interest t Annuities column = Unit {0}
+Reads f interest t Pensions column = Unit {0}
+Reads f interest t Widows column = WidowsFirst f interest t column
+
+-- where such values may be put without losing what they read
+abbrev pub Apart : Level → ℕ → Type 0
+Apart Annuities place = Unit {0}
+Apart Pensions place = Unit {0}
+Apart Widows place = 121 ≤ place

@@ -1,8 +1,8 @@
 // The working column: what widows' and invalids' shares read, a value at each age.
 ghost use mathlib.Core.Path.{_≡_};
-ghost use Prim.Native.Nat.{_≤_};
-ghost use lib.ListN.{length};
-ghost use Rattle.valuation.specs.Columns.{Filled, Reads, WidowsFirst, levelOf, levelShare};
+ghost use Prim.Native.Nat.{ℕ, _+_, _≤_, _<_};
+ghost use lib.ListN.{getD, length};
+ghost use Rattle.valuation.specs.Columns.{Apart, FilledAt, Reads, WidowsFirst, levelOf, levelShare};
 ghost use Rattle.valuation.specs.Pair.{leftNumber, widNumber, widowedNumber};
 use crate::fixed::SCALE;
 use crate::fixed::fixed;
@@ -44,7 +44,7 @@ pub(crate) fn widowed<B: Basis>(rates: &Rates, basis: &B, widows: &[u64], kind: 
 }
 
 // The yearly share of a value of amount 1 a year.
-fn level_share<B: Basis>(rates: &Rates, basis: &B, widows: &[u64], kind: Kind, level: Level, age: u32) -> u64
+pub(crate) fn level_share<B: Basis>(rates: &Rates, basis: &B, widows: &[u64], kind: Kind, level: Level, age: u32) -> u64
     requires { ⌜ Reads (figures (now basis)) (now rates .interest) (now rates .instalments) level (now widows) ⌝ }
     ensures { λ r. ⌜ r ≡ levelShare (figures (now (basis .entry))) (now (rates .entry) .interest) (now (rates .entry) .instalments) kind level age ⌝ }
 {
@@ -55,15 +55,17 @@ fn level_share<B: Basis>(rates: &Rates, basis: &B, widows: &[u64], kind: Kind, l
     }
 }
 
-// Fills the first places of a column with a value of amount 1 a year at each age, from the last age down.
-pub(crate) fn fill<B: Basis>(rates: &Rates, basis: &B, widows: &[u64], kind: Kind, level: Level, column: &mut [u64])
-    requires { ⌜ Reads (figures (now basis)) (now rates .interest) (now rates .instalments) level (now widows) ⌝ ∗ ⌜ 121 ≤ length (now column) ⌝ }
-    ensures { λ _. ⌜ Filled (levelOf (figures (now (basis .entry))) (now (rates .entry) .interest) (now (rates .entry) .instalments) kind level) (now (column .exit)) ⌝ }
+// Puts a value of amount 1 a year at each age into a column from a place on, from the last age down.
+pub(crate) fn fill<B: Basis>(rates: &Rates, basis: &B, kind: Kind, level: Level, column: &mut [u64], place: usize)
+    requires { ⌜ Reads (figures (now basis)) (now rates .interest) (now rates .instalments) level (now column) ⌝ ∗ ⌜ Apart level place ⌝ ∗ ⌜ place + 121 ≤ length (now column) ⌝ }
+    ensures filled { λ _. ⌜ FilledAt place (levelOf (figures (now (basis .entry))) (now (rates .entry) .interest) (now (rates .entry) .instalments) kind level) (now (column .exit)) ⌝ }
+    ensures before { λ _. ⌜ ((x : ℕ) → x < place → getD (now (column .exit)) x 0 ≡ getD (now (column .entry)) x 0) ⌝ }
+    ensures len { λ _. ⌜ length (now (column .exit)) ≡ length (now (column .entry)) ⌝ }
 {
     let mut later = 0;
     for age in (0..AGES).rev() {
-        let share = level_share(rates, basis, widows, kind, level, age as u32);
+        let share = level_share(rates, basis, column, kind, level, age as u32);
         later = share + product(rates.goes_on(basis, kind, age as u32), later);
-        column[age] = later;
+        column[place + age] = later;
     }
 }

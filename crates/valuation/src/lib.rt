@@ -6,6 +6,7 @@ mod fixed;
 pub mod known;
 pub mod pair;
 mod level;
+mod life;
 mod path;
 mod rates;
 pub mod terms;

@@ -19,11 +19,12 @@ pub(crate) trait Path<B: Basis> {
     ghost shares: { Self → B → ℕ → ℕ };
 
     fn survival(&self, basis: &B, year: u32) -> u64
+        requires { ⌜ year ≤ 121 ⌝ }
         ensures value { λ r. ⌜ r ≡ survivals (now (self .entry)) (now (basis .entry)) year ⌝ }
         ensures below { λ r. ⌜ r ≤ scale ⌝ };
 
     fn share(&self, basis: &B, column: &[u64], year: u32) -> u64
-        requires { ⌜ ready (now self) (now basis) (now column) ⌝ }
+        requires { ⌜ ready (now self) (now basis) (now column) ⌝ ∗ ⌜ year ≤ 121 ⌝ }
         ensures value { λ r. ⌜ r ≡ shares (now (self .entry)) (now (basis .entry)) year ⌝ }
         ensures modest { λ r. ⌜ r ≤ 250 * scale ⌝ };
 }
