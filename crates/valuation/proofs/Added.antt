@@ -3,7 +3,7 @@ use mathlib.Core.Path.{_≡_, refl, ap, sym, _∙_}
 use Prim.Native.Nat.{ℕ, zero, suc, _+_, _-_, _*_, _≤_, _<_}
 use native.Mathlib.Nat.{div-le-of-le-mul, mul-le-mul, mul-le-mul-right, mul-pos}
 use native.Mathlib.Omega.{arith}
-use Rattle.valuation.specs.Fixed.{scale, fixed}
+use Rattle.valuation.specs.Fixed.{scale, fixed, product}
 use Rattle.valuation.specs.Rates.{added}
 
 pub added-none : (k : ℕ) (g : ℕ → ℕ) → added 0 k g ≡ 0
@@ -52,3 +52,7 @@ added-end t m sum g l inv = let none : t - m ≡ 0 = omega arith in omega (arith
 pub added-fits : (t m sum term : ℕ) (g : ℕ → ℕ) → t ≤ 12 → m < t → term ≡ g m → ((k : ℕ) → k < t → g k ≤ scale) → sum + added (t - m) m g ≡ added t 0 g → sum + term ≤ 12 * scale
 added-fits t m sum term g few l same small inv =
     omega (arith, same, inv, added-more t m g l, added-bound t 0 scale g (λ k low high. small k (omega arith)), mul-le-mul-right scale few)
+
+-- equal factors, equal products
+pub same-product : (n a b c d e : ℕ) → n ≡ product a b → a ≡ c → b ≡ d → product c d ≡ e → n ≡ e
+same-product n a b c d e en ea eb ee = en ∙ ap (λ x. product x b) ea ∙ ap (product c) eb ∙ ee

@@ -59,9 +59,9 @@ down-more value place was column k later next some few room same down =
       long = length-set column (place + j) next ∙ down .long;
       here = same;
       done = λ x low high. ⊎-elim
-        (λ e. ap (λ y. getD (set column (place + j) next) (place + y) 0) e ∙ getD-set-same column (place + j) next 0 inside ∙ same ∙ ap value (sym e))
-        (λ ne. getD-set-other column (place + j) (place + x) next 0 (λ e. ne (omega (arith, e))) ∙ down .done x (omega (arith, ne)) high)
-        (cases-eq x j);
+          (λ e. ap (λ y. getD (set column (place + j) next) (place + y) 0) e ∙ getD-set-same column (place + j) next 0 inside ∙ same ∙ ap value (sym e))
+          (λ ne. getD-set-other column (place + j) (place + x) next 0 (λ e. ne (omega (arith, e))) ∙ down .done x (omega (arith, ne)) high)
+          (cases-eq x j);
       before = λ x l. getD-set-other column (place + j) x next 0 (λ e. absurd (omega (arith, e))) ∙ down .before x l;
     }
 
@@ -73,7 +73,7 @@ reads-kept f interest t Widows place was column apart long before reads = (omega
 
 -- the number that the code has at the next age down
 pub next-value : (f : Figures) (interest t : ℕ) (b : Kind) (l : ℕ → ℕ) (k later share goes part : ℕ) → 0 < k → k ≤ 121 → share ≡ l (k - 1) → goes ≡ goesOn f interest t b (k - 1) → part ≡ product goes later
-  → later ≡ levelNumber f interest t b l k → share + part ≡ levelNumber f interest t b l (k - 1)
+    → later ≡ levelNumber f interest t b l k → share + part ≡ levelNumber f interest t b l (k - 1)
 next-value f interest t b l k later share goes part some few es eg ep el =
     let value = levelNumber f interest t b l in
     let j = k - 1 in

@@ -8,6 +8,7 @@ use native.Mathlib.Nat.{div-mul-le-self, lt-div-mul-add, mul-le-mul-right, div-l
 use native.Mathlib.Omega.{arith}
 use lib.Dec.{ltb, eqb}
 use lib.ListN.{getD}
+use Rattle.std.proofs.shelf.Tests.{le-ltb, lt-ltb}
 use Rattle.std.proofs.shelf.Ways.{tells}
 use Rattle.basis.specs.declared.kind.Kind.{Kind}
 use Rattle.basis.specs.declared.kind.Kind.the-variants.{Invalidity, ActiveDeath, InvalidDeath, PopulationDeath, WidowDeath}
@@ -21,6 +22,7 @@ use Rattle.valuation.specs.Exact.{paid, lives, stays, survives, share, value, 
 use Rattle.valuation.specs.Fixed.{scale, Stands}
 use Rattle.valuation.specs.Rates.{keptNumber, lossNumber, paidNumber}
 use Rattle.valuation.specs.Pair.{running, slack, weight, staysOn, goesOn, shareNumber, survivalNumber, levelNumber, pensionNumber, widowedNumber, turningInvalidNumber, turningInvalidWidowNumber, lowUnits, highUnits, lowerCents, upperCents}
+use Rattle.valuation.specs.ActivePath.{activeShare, belowNumber, finalNumber}
 use Rattle.valuation.specs.Enclosure.{Enclosed, PairsEnclose}
 use Rattle.valuation.proofs.Fractions.{proper-add}
 use Rattle.valuation.proofs.Enclosures.{stands-sum, stands-wider}
@@ -205,3 +207,94 @@ pairs-enclose f lawful interest t usual b x amounts =
           (running-encloses s l (discount interest) p L R 104857600 5600000 years n 0 (omega arith));
       gap = λ modest. cents-gap (running s l (λ k. weight (R k)) n 0) (slack (λ k. weight (R k)) n 0) (omega (arith, slack-few R modest n 0));
     }
+
+-- The share that the active path reads is the benefit's, and modest.
+module _ (f : Figures) (interest t : ℕ) where
+  -- what is added to nothing
+  picked : (b : Bool) (a r w : ℕ) → (pick b a 0 + pick b 0 r) + pick b w 0 ≡ pick b (a + w) r
+  picked true a r w = omega arith
+  picked false a r w = omega arith
+
+  picked-two : (b : Bool) (a r : ℕ) → pick b a 0 + pick b 0 r ≡ pick b a r
+  picked-two true a r = omega arith
+  picked-two false a r = omega arith
+
+-- benefits of an active
+abbrev pub IsActive : Benefit → Type 0
+IsActive Retired = ⊥
+IsActive Population = ⊥
+IsActive Invalid = ⊥
+IsActive Widow = ⊥
+IsActive RetiredWidow = ⊥
+IsActive PopulationWidow = ⊥
+IsActive InvalidWidow = ⊥
+IsActive Active = Unit {0}
+IsActive ActiveRetirement = Unit {0}
+IsActive ActiveInvalidity = Unit {0}
+IsActive ActiveInvalidityRetirement = Unit {0}
+IsActive ActiveDeathWidow = Unit {0}
+IsActive ActiveRetiredWidow = Unit {0}
+IsActive ActiveOrRetiredWidow = Unit {0}
+IsActive ActiveInvalidWidow = Unit {0}
+IsActive ActiveWidow = Unit {0}
+
+pub active-share-is : (f : Figures) (interest t : ℕ) (b : Benefit) → IsActive b → (x : ℕ) → activeShare f interest t b x ≡ shareNumber f interest t b x
+active-share-is f interest t Retired h x = absurd h
+active-share-is f interest t Population h x = absurd h
+active-share-is f interest t Invalid h x = absurd h
+active-share-is f interest t Widow h x = absurd h
+active-share-is f interest t RetiredWidow h x = absurd h
+active-share-is f interest t PopulationWidow h x = absurd h
+active-share-is f interest t InvalidWidow h x = absurd h
+active-share-is f interest t Active h x = refl
+active-share-is f interest t ActiveRetirement h x = refl
+active-share-is f interest t ActiveInvalidity h x = refl
+active-share-is f interest t ActiveInvalidityRetirement h x = sym (picked-two f interest t (ltb x (f .finalAge)) _ _)
+active-share-is f interest t ActiveDeathWidow h x = refl
+active-share-is f interest t ActiveRetiredWidow h x = refl
+active-share-is f interest t ActiveOrRetiredWidow h x = sym (picked-two f interest t (ltb x (f .finalAge)) _ _)
+active-share-is f interest t ActiveInvalidWidow h x = refl
+active-share-is f interest t ActiveWidow h x = sym (picked f interest t (ltb x (f .finalAge)) _ _ _)
+
+pub active-at : (f : Figures) (interest t : ℕ) (b : Benefit) (x : ℕ) → f .finalAge ≤ x → activeShare f interest t b x ≡ finalNumber f interest t b
+active-at f interest t b x h = ap (λ v. pick v (belowNumber f interest t b x) (finalNumber f interest t b)) (le-ltb x (f .finalAge) h)
+
+pub active-below : (f : Figures) (interest t : ℕ) (b : Benefit) (x : ℕ) → x < f .finalAge → activeShare f interest t b x ≡ belowNumber f interest t b x
+active-below f interest t b x h = ap (λ v. pick v (belowNumber f interest t b x) (finalNumber f interest t b)) (lt-ltb x (f .finalAge) h)
+
+module _ (f : Figures) (lawful : Lawful f) (interest t : ℕ) (some : 0 < t) (few : t ≤ 12) where
+  pub final-bound : (b : Benefit) → finalNumber f interest t b ≤ 250 * scale
+  final-bound Retired = omega arith
+  final-bound Population = omega arith
+  final-bound Invalid = omega arith
+  final-bound Widow = omega arith
+  final-bound RetiredWidow = omega arith
+  final-bound PopulationWidow = omega arith
+  final-bound InvalidWidow = omega arith
+  final-bound Active = omega arith
+  final-bound ActiveRetirement = omega (arith, pensions-bound f lawful interest t some few PopulationDeath (f .finalAge))
+  final-bound ActiveInvalidity = omega arith
+  final-bound ActiveInvalidityRetirement = omega (arith, pensions-bound f lawful interest t some few PopulationDeath (f .finalAge))
+  final-bound ActiveDeathWidow = omega arith
+  final-bound ActiveRetiredWidow = omega (arith, widows-bound f lawful interest t some few PopulationDeath (f .finalAge))
+  final-bound ActiveOrRetiredWidow = omega (arith, widows-bound f lawful interest t some few PopulationDeath (f .finalAge))
+  final-bound ActiveInvalidWidow = omega arith
+  final-bound ActiveWidow = omega (arith, widows-bound f lawful interest t some few PopulationDeath (f .finalAge))
+
+  pub below-bound : (b : Benefit) (x : ℕ) → belowNumber f interest t b x ≤ 250 * scale
+  below-bound Retired x = omega arith
+  below-bound Population x = omega arith
+  below-bound Invalid x = omega arith
+  below-bound Widow x = omega arith
+  below-bound RetiredWidow x = omega arith
+  below-bound PopulationWidow x = omega arith
+  below-bound InvalidWidow x = omega arith
+  below-bound Active x = omega (arith, active-bound f lawful interest t some few x)
+  below-bound ActiveRetirement x = omega arith
+  below-bound ActiveInvalidity x = omega (arith, turning-bound f lawful interest t some few x)
+  below-bound ActiveInvalidityRetirement x = omega (arith, turning-bound f lawful interest t some few x)
+  below-bound ActiveDeathWidow x = omega (arith, widowed-bound f lawful interest t some few ActiveDeath x)
+  below-bound ActiveRetiredWidow x = omega arith
+  below-bound ActiveOrRetiredWidow x = omega (arith, widowed-bound f lawful interest t some few ActiveDeath x)
+  below-bound ActiveInvalidWidow x = omega (arith, turning-widow-bound f lawful interest t some few x)
+  below-bound ActiveWidow x = omega (arith, widowed-bound f lawful interest t some few ActiveDeath x, turning-widow-bound f lawful interest t some few x)

@@ -128,7 +128,7 @@ module _ (f : Figures) (lawful : Lawful f) (interest t : ℕ) (some : 0 < t) (fe
   left-stands x = stands-product (chanceNumber (f .figure Married x)) (widNumber f interest t (f .figure SpouseAge x)) (chance f Married x) (wid f interest t backward (f .figure SpouseAge x)) 1 44408 121
       (limited Married x) (wid-bound (f .figure SpouseAge x)) (chance-stands Married x) (wid-stands (f .figure SpouseAge x))
 
-  left-bound : (x : ℕ) → leftNumber f interest t x ≤ 121 * scale
+  pub left-bound : (x : ℕ) → leftNumber f interest t x ≤ 121 * scale
   unfolding leftNumber
   left-bound x = omega (arith, shrinks (chanceNumber (f .figure Married x)) (widNumber f interest t (f .figure SpouseAge x)) (chance-below Married x), wid-bound (f .figure SpouseAge x))
 

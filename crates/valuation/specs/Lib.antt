@@ -10,3 +10,4 @@ pub mod Rates
 pub mod Pair
 pub mod Enclosure
 pub mod Columns
+pub mod ActivePath

@@ -26,16 +26,25 @@ fn wid<B: Basis>(rates: &Rates, basis: &B, widows: &[u64], y: u32) -> u64
 }
 
 // The same for whoever dies at an age, married or not.
-fn left<B: Basis>(rates: &Rates, basis: &B, widows: &[u64], age: u32) -> u64
+pub(crate) fn left<B: Basis>(rates: &Rates, basis: &B, widows: &[u64], age: u32) -> u64
     requires { ⌜ WidowsFirst (figures (now basis)) (now rates .interest) (now rates .instalments) (now widows) ⌝ }
     ensures { λ r. ⌜ r ≡ leftNumber (figures (now (basis .entry))) (now (rates .entry) .interest) (now (rates .entry) .instalments) age ⌝ }
 {
     let married = fixed(basis.figure(Kind::Married, age) as u64, CERTAIN as u64);
-    product(married, wid(rates, basis, widows, basis.figure(Kind::SpouseAge, age)))
+    product(
+        married,
+        wid(rates, basis, widows, basis.figure(Kind::SpouseAge, age)),
+    )
 }
 
 // The share of a population's deaths at an age.
-pub(crate) fn widowed<B: Basis>(rates: &Rates, basis: &B, widows: &[u64], kind: Kind, age: u32) -> u64
+pub(crate) fn widowed<B: Basis>(
+    rates: &Rates,
+    basis: &B,
+    widows: &[u64],
+    kind: Kind,
+    age: u32,
+) -> u64
     requires { ⌜ WidowsFirst (figures (now basis)) (now rates .interest) (now rates .instalments) (now widows) ⌝ }
     ensures { λ r. ⌜ r ≡ widowedNumber (figures (now (basis .entry))) (now (rates .entry) .interest) (now (rates .entry) .instalments) kind age ⌝ }
 {
@@ -44,7 +53,14 @@ pub(crate) fn widowed<B: Basis>(rates: &Rates, basis: &B, widows: &[u64], kind: 
 }
 
 // The yearly share of a value of amount 1 a year.
-pub(crate) fn level_share<B: Basis>(rates: &Rates, basis: &B, widows: &[u64], kind: Kind, level: Level, age: u32) -> u64
+pub(crate) fn level_share<B: Basis>(
+    rates: &Rates,
+    basis: &B,
+    widows: &[u64],
+    kind: Kind,
+    level: Level,
+    age: u32,
+) -> u64
     requires { ⌜ Reads (figures (now basis)) (now rates .interest) (now rates .instalments) level (now widows) ⌝ }
     ensures { λ r. ⌜ r ≡ levelShare (figures (now (basis .entry))) (now (rates .entry) .interest) (now (rates .entry) .instalments) kind level age ⌝ }
 {
@@ -56,7 +72,14 @@ pub(crate) fn level_share<B: Basis>(rates: &Rates, basis: &B, widows: &[u64], ki
 }
 
 // Puts a value of amount 1 a year at each age into a column from a place on, from the last age down.
-pub(crate) fn fill<B: Basis>(rates: &Rates, basis: &B, kind: Kind, level: Level, column: &mut [u64], place: usize)
+pub(crate) fn fill<B: Basis>(
+    rates: &Rates,
+    basis: &B,
+    kind: Kind,
+    level: Level,
+    column: &mut [u64],
+    place: usize,
+)
     requires { ⌜ Reads (figures (now basis)) (now rates .interest) (now rates .instalments) level (now column) ⌝ ∗ ⌜ Apart level place ⌝ ∗ ⌜ place + 121 ≤ length (now column) ⌝ }
     ensures filled { λ _. ⌜ FilledAt place (levelOf (figures (now (basis .entry))) (now (rates .entry) .interest) (now (rates .entry) .instalments) kind level) (now (column .exit)) ⌝ }
     ensures before { λ _. ⌜ ((x : ℕ) → x < place → getD (now (column .exit)) x 0 ≡ getD (now (column .entry)) x 0) ⌝ }

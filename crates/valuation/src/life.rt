@@ -31,6 +31,13 @@ pub(crate) impl<B: Basis> Path<B> for LifePath as AlongLife {
     }
 
     fn share(&self, basis: &B, column: &[u64], year: u32) -> u64 {
-        level_share(&self.rates, basis, column, self.kind, self.level, self.age + year)
+        level_share(
+            &self.rates,
+            basis,
+            column,
+            self.kind,
+            self.level,
+            self.age + year,
+        )
     }
 }

@@ -2,7 +2,7 @@
 ghost use mathlib.Core.Path.{_≡_};
 ghost use Prim.Native.Nat.{_≤_, _<_};
 ghost use Rattle.valuation.specs.Fixed.{scale};
-ghost use Rattle.valuation.specs.Pair.{goesOn, halfNumber, pensionNumber, staysOn, toNextYear};
+ghost use Rattle.valuation.specs.Pair.{goesOn, halfNumber, pensionNumber, soonerNumber, staysOn, toNextYear};
 ghost use Rattle.valuation.specs.Rates.{discountNumber, keptNumber, livesNumber, lossNumber, paidNumber};
 use crate::fixed::fixed;
 use crate::fixed::product;
@@ -114,4 +114,13 @@ fn half(q: u32) -> u64
         return 0;
     }
     fixed(2 * (CERTAIN - q) as u64, (2 * CERTAIN - q) as u64)
+}
+
+// 1 less half: of those who are alive at mid-year, the part that dies before the year's end.
+pub(crate) fn sooner(q: u32) -> u64
+    requires { ⌜ q ≤ 1000000 ⌝ }
+    ensures value { λ r. ⌜ r ≡ soonerNumber q ⌝ }
+    ensures below { λ r. ⌜ r ≤ scale ⌝ }
+{
+    fixed(q as u64, (2 * CERTAIN - q) as u64)
 }

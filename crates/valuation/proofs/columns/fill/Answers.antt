@@ -20,7 +20,7 @@ add-later g c =
     let rates = c .args .rates .now in
     let k = c .loop-age .age in
     let next = next-value f (rates .interest) (rates .instalments) (c .args .kind) (levelShare f (rates .interest) (rates .instalments) (c .args .kind) (c .args .level)) k (c .loop-age .later) (c .level-share-share .result) (c .goes-on .result) (c .product .result)
-      (omega arith) (omega arith) (c .level-share-share .ensures) (c .goes-on .ensures .value) (c .product .ensures) (c .loop-age .inv .here) in
+    (omega arith) (omega arith) (c .level-share-share .ensures) (c .goes-on .ensures .value) (c .product .ensures) (c .loop-age .inv .here) in
     omega (arith, next, levels-bound f (g .B·Basis·met .lawful basis) (rates .interest) (rates .instalments) (rates .some) (rates .few) (c .args .kind) (c .args .level) (k - 1))
 
 pub loop-age-again : need.loop-age-again
@@ -29,7 +29,7 @@ loop-age-again g c =
     let rates = c .args .rates .now in
     let k = c .loop-age .age in
     let next = next-value f (rates .interest) (rates .instalments) (c .args .kind) (levelShare f (rates .interest) (rates .instalments) (c .args .kind) (c .args .level)) k (c .loop-age .later) (c .level-share-share .result) (c .goes-on .result) (c .product .result)
-      (omega arith) (omega arith) (c .level-share-share .ensures) (c .goes-on .ensures .value) (c .product .ensures) (c .loop-age .inv .here) in
+    (omega arith) (omega arith) (c .level-share-share .ensures) (c .goes-on .ensures .value) (c .product .ensures) (c .loop-age .inv .here) in
     down-more _ (c .args .place) (c .args .column .now) (c .loop-age .column) k (c .loop-age .later) _ (omega arith) (omega arith) (c .pre .1 .1) next (c .loop-age .inv)
 
 pub returns : need.returns

@@ -19,7 +19,13 @@ pub returns : need.returns
 returns g c =
     let same = ap (λ d. product d (c .fixed .result)) (c .args .self .now .discounted) in
     record {
-      below = omega (arith, c .product .ensures, same, shrinks (discountNumber (c .args .self .now .interest)) (c .fixed .result) (discount-below (c .args .self .now .interest)), c .fixed .ensures,
-        fixed-small (1000000 - c .figure-able .result - c .figure .result) 1000000 (omega arith));
+      below = omega (
+        arith,
+        c .product .ensures,
+        same,
+        shrinks (discountNumber (c .args .self .now .interest)) (c .fixed .result) (discount-below (c .args .self .now .interest)),
+        c .fixed .ensures,
+        fixed-small (1000000 - c .figure-able .result - c .figure .result) 1000000 (omega arith),
+      );
       value = search needs;
     }
