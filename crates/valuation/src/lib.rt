@@ -11,3 +11,4 @@ pub mod pair;
 mod path;
 mod rates;
 pub mod terms;
+pub mod value;
