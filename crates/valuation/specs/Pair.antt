@@ -31,7 +31,8 @@ unfoldable pub slack : (ℕ → ℕ) → ℕ → ℕ → ℕ
 slack weights zero k = 0
 slack weights (suc n) k = slack weights n (suc k) + weights k * 8388608 / scale + 4
 
--- the part of the dying who live to mid-year, of those who survive the year: (1 − q)/(1 − q/2), 0 where q is certain; and 1 less that
+-- of those who are alive at mid-year, the part that is alive at the year's end: (1 − q)/(1 − q/2), 0 where death is certain;
+-- and 1 less that part
 abbrev pub halfNumber : ℕ → ℕ
 halfNumber q = elim (eqb q 1000000) [ true ↦ 0 | false ↦ fixed (2 * (1000000 - q)) (2000000 - q) ]
 
