@@ -1,4 +1,6 @@
 // Cases for the basis, one to a line of the input: what is taken, what is refused, and with which fault.
+#![tactic(auto)]
+
 ghost use Rattle.std.specs.Prelude.{◌≡◌, true};
 
 use anyhow::{Context, anyhow};

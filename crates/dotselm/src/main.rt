@@ -1,5 +1,7 @@
 // Reads a table book, lays an age shift and a loading over it, goes round with its bytes, and says of promises whether
 // they would be taken.
+#![tactic(auto)]
+
 use anyhow::{Context, anyhow};
 use basis::interface::Basis;
 use basis::kind::Kind;

@@ -1,5 +1,7 @@
 // Reads a table book, lays an age shift and a loading over it, goes round with its bytes, values promises, and keeps the
 // stock of one employer for a week.
+#![tactic(auto)]
+
 use anyhow::{Context, anyhow};
 use basis::interface::Basis;
 use basis::kind::Kind;

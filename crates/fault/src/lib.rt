@@ -1,4 +1,6 @@
 // Why a thing is refused: a record by value that passes upward whole, from the book to the stock.
+#![tactic(auto)]
+
 ghost use Rattle.std.specs.Prelude.{◌≡◌, Some};
 ghost use Rattle.fault.specs.Faults.{rule, fault, fault_in, fault_text, part_name, hyphened};
 

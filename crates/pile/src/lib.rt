@@ -1,4 +1,6 @@
 // A basis that is chosen at run time: any number of shifts and loadings over either bottom.
+#![tactic(auto)]
+
 pub mod bottom;
 pub mod layer;
 mod question;

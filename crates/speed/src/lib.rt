@@ -1,4 +1,6 @@
 // Promises valued again and again, so that a benchmark in another language can measure how long it takes.
+#![tactic(auto)]
+
 ghost use Rattle.std.specs.Prelude.{◌≡◌, length};
 ghost use Rattle.basis.specs.StraightLine.{straight_line};
 ghost use Rattle.speed.specs.Repeated.{benefit_at, lower_or_none, repeated, repeated_at, yearly};

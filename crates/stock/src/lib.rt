@@ -1,4 +1,6 @@
 // The stock of promises: what is in force, and its total carried forward from call to call.
+#![tactic(auto)]
+
 pub mod call;
 pub mod promise;
 mod record;

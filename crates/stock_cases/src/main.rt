@@ -1,4 +1,6 @@
 // Calls to stocks with their foretold answers, one to a line of the input: each answer has to be as foretold.
+#![tactic(auto)]
+
 use anyhow::{Context, anyhow};
 use basis::loading::Loading;
 use basis::shift::Shift;

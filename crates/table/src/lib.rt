@@ -1,4 +1,6 @@
 // The table basis: figures from a book, lawful by the invariant of its type.
+#![tactic(auto)]
+
 mod book;
 mod book_reader;
 mod book_writer;

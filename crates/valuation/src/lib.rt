@@ -1,4 +1,6 @@
 // Present values: terms, the sixteen benefits, and what a valuation is refused for.
+#![tactic(auto)]
+
 mod active;
 pub mod admission;
 pub mod benefit;

@@ -1,4 +1,6 @@
 // Promises with their exact values, one to a line of the input: each pair has to enclose its value and to be narrow.
+#![tactic(auto)]
+
 use anyhow::{Context, anyhow};
 use basis::loading::Loading;
 use basis::shift::Shift;
