@@ -11,4 +11,4 @@ same_line on z i r old ill e = cc
 pub returns : goal.returns
 returns c =
     let made = (subst (λ r. Outcome r (straight_line_fault 65 5000) (λ b. (b.final_age ≡ 65) × (b.invalidity ≡ 5000))) c.unwrap-line.ensures c.new.ensures).1 in
-    same_line (λ f. repeated_at f c.args.interest c.args.instalments c.args.benefit c.args.age c.args.times) _ _ _ made.0 made.1 c.repeat-at.ensures
+    same_line (λ f. repeated_at f c.args.interest c.args.instalments c.args.benefit c.args.age c.args.times) _ _ _ made.0 made.1 c.repeat_at.ensures

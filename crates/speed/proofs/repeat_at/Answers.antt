@@ -14,4 +14,4 @@ first_years asked z b x n same old years =
 pub repeat-requires : goal.repeat-requires
 repeat-requires g c =
     let aged = (g.met.B.Basis.lawful c.args.basis.now).aged in
-    first_years _ _ c.in-Some.benefit c.args.age c.span-years.result c.final-age.ensures aged.1 c.span-years.ensures
+    first_years _ _ c.in-Some.benefit c.args.age c.span-years.result c.final_age.ensures aged.1 c.span-years.ensures

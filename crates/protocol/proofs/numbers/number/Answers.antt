@@ -6,10 +6,10 @@ pub loop-byte-init : goal.loop-byte-init
 loop-byte-init c = read_none c.args.word.now
 
 pub loop-byte-preserved : goal.loop-byte-preserved
-loop-byte-preserved c = read_more c.args.word.now c.loop-byte.byte-index c.loop-byte.n c.min-n.result c.loop-byte-test.true (sym c.if-not-is-digit.ensures) c.min-n.ensures c.loop-byte.invariant
+loop-byte-preserved c = read_more c.args.word.now c.loop-byte.byte-index c.loop-byte.n c.min-n.result c.loop-byte-test.true (sym c.if-not-is_digit.ensures) c.min-n.ensures c.loop-byte.invariant
 
-pub returns-then-not-is-digit : goal.returns-then-not-is-digit
-returns-then-not-is-digit c = no_number c.args.word.now c.loop-byte.byte-index c.loop-byte-test.true (sym c.if-not-is-digit.ensures)
+pub returns-then-not-is_digit : goal.returns-then-not-is_digit
+returns-then-not-is_digit c = no_number c.args.word.now c.loop-byte.byte-index c.loop-byte-test.true (sym c.if-not-is_digit.ensures)
 
 pub returns-then-n-eq-LIMIT : goal.returns-then-n-eq-LIMIT
 returns-then-n-eq-LIMIT c = great_number c.args.word.now c.loop-byte.byte-index c.loop-byte.n c.loop-byte.invariant c.loop-byte-test.false (omega arith)

@@ -9,9 +9,9 @@ pub returns : goal.returns
 returns c =
     let self = c.args.self.now in
     let lawful : Lawful (tabled self.rows) = record { aged = self.aged; limited = self.limited; ended = listed_outside self.rows.final_age _; exits = self.exits; seamless = self.seamless; closed = self.closed } in
-    let n = c.in-ok-length.length in
+    let n = c.in_ok-length.length in
     let whole : n - 0 ≡ n = omega arith in
-    let wrote = c.in-ok-length.ensures.answer in
-    let round = reread (λ t. tabled t.rows) c.from-book.result (tabled self.rows) c.args.buffer.now c.write.new.buffer (take (n - 0) c.write.new.buffer) n lawful wrote.0 wrote.1.0 wrote.1.1
-    (ap (λ m. take m c.write.new.buffer) whole) c.from-book.ensures in
+    let wrote = c.in_ok-length.ensures.answer in
+    let round = reread (λ t. tabled t.rows) c.from_book.result (tabled self.rows) c.args.buffer.now c.write.new.buffer (take (n - 0) c.write.new.buffer) n lawful wrote.0 wrote.1.0 wrote.1.1
+    (ap (λ m. take m c.write.new.buffer) whole) c.from_book.ensures in
     record { answer = round.0; kept = round.1 }

@@ -5,9 +5,9 @@ use Rattle.table.proofs.Table.rewrite.Goals as goal
 
 pub returns : goal.returns
 returns c =
-    let read = c.in-ok-from-book.ensures in
+    let read = c.in_ok-from_book.ensures in
     record {
-      answer = rewritten c.write.result c.args.book.now c.args.buffer.now c.write.new.buffer (tabled c.in-ok-from-book.field-0.rows)
-          (λ i. omega (arith, c.type-inv.book i)) read.0 read.1 c.write.ensures.answer;
+      answer = rewritten c.write.result c.args.book.now c.args.buffer.now c.write.new.buffer (tabled c.in_ok-from_book.field-0.rows)
+          (λ i. omega (arith, c.type_inv.book i)) read.0 read.1 c.write.ensures.answer;
       kept = c.write.ensures.kept;
     }

@@ -4,4 +4,4 @@ use Rattle.table.specs.Book.{entry_fault, kind_at}
 use Rattle.table.proofs.book_reader.check_contents.Given as goal
 
 abbrev pub invariant-loop-kind : goal.invariant-loop-kind
-invariant-loop-kind l = first_below l.kind-index (λ i. entry_fault l.book l.final-age (kind_at i)) ≡ None
+invariant-loop-kind l = first_below l.kind-index (λ i. entry_fault l.book l.final_age (kind_at i)) ≡ None

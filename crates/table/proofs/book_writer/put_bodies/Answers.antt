@@ -12,7 +12,7 @@ pub loop-kind-preserved : goal.loop-kind-preserved
 loop-kind-preserved c =
     let i = c.loop-kind.kind-index in
     let f = tabled c.args.rows.now in
-    c.put-body.ensures
+    c.put_body.ensures
     ∙ placed_order_more c.args.buffer.now c.loop-kind.buffer 37 i (body_place f.final_age (kind_at i)) (λ j. body_bytes f (kind_at j)) c.loop-kind.invariant
     (bodies_before f i c.loop-kind-test.true) (omega (arith, body_within f.final_age (kind_at i)))
 

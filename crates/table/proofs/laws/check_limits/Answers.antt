@@ -10,12 +10,12 @@ pub loop-kind-init : goal.loop-kind-init
 loop-kind-init c = first_none _
 
 pub loop-kind-preserved : goal.loop-kind-preserved
-loop-kind-preserved c = first_more c.loop-kind.kind-index _ c.loop-kind.invariant c.in-ok-check-list.ensures.0
+loop-kind-preserved c = first_more c.loop-kind.kind-index _ c.loop-kind.invariant c.in_ok-check_list.ensures.0
 
-pub returns-in-err-check-list : goal.returns-in-err-check-list
-returns-in-err-check-list c =
-    let p = err_from_is_err_and c.from-residual.result c.from-residual.ensures.1 in
-    rw (p.1, p.2) (first_found c.loop-kind.kind-index 7 _ _ c.loop-kind.invariant c.in-err-check-list.ensures c.loop-kind-test.true)
+pub returns-in_err-check_list : goal.returns-in_err-check_list
+returns-in_err-check_list c =
+    let p = err_from_is_err_and c.from_residual.result c.from_residual.ensures.1 in
+    rw (p.1, p.2) (first_found c.loop-kind.kind-index 7 _ _ c.loop-kind.invariant c.in_err-check_list.ensures c.loop-kind-test.true)
 
 pub returns : goal.returns
 returns c =

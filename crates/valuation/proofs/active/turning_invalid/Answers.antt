@@ -23,5 +23,5 @@ returns g c =
     let i = c.args.rates.now.interest in
     let t = c.args.rates.now.instalments in
     let x = c.args.age in
-    let pension = same_product c.product-pension.result _ _ (to_next_year f i t InvalidDeath x) (annuity_number f i t InvalidDeath (x + 1)) _ c.product-pension.ensures c.to-next-year.ensures.value (c.requires.0.1 (x + 1) (omega (arith, c.requires.1))) refl in
+    let pension = same_product c.product-pension.result _ _ (to_next_year f i t InvalidDeath x) (annuity_number f i t InvalidDeath (x + 1)) _ c.product-pension.ensures c.to_next_year.ensures.value (c.requires.0.1 (x + 1) (omega (arith, c.requires.1))) refl in
     same_product c.product.result _ _ (chance_number (f.figure Invalidity x)) _ _ c.product.ensures (c.fixed-turning.ensures ∙ ap chance_number c.figure.ensures) pension refl

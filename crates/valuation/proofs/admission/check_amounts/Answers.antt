@@ -6,8 +6,8 @@ pub loop-k-init : goal.loop-k-init
 loop-k-init c = first_none _
 
 pub loop-k-preserved : goal.loop-k-preserved
-loop-k-preserved c = first_more c.loop-k.k _ c.loop-k.invariant (none_refuse _ _ (le-ltb _ _ c.if-amount-gt-GREATEST-AMOUNT.false))
+loop-k-preserved c = first_more c.loop-k.k _ c.loop-k.invariant (none_refuse _ _ (le-ltb _ _ c.if-amount-gt-GREATEST_AMOUNT.false))
 
-pub returns-then-amount-gt-GREATEST-AMOUNT : goal.returns-then-amount-gt-GREATEST-AMOUNT
-returns-then-amount-gt-GREATEST-AMOUNT c =
-    first_found c.loop-k.k _ _ _ c.loop-k.invariant (refuse_some _ _ c.new.result (lt-ltb _ _ c.if-amount-gt-GREATEST-AMOUNT.true) c.new.ensures) c.loop-k-test.true
+pub returns-then-amount-gt-GREATEST_AMOUNT : goal.returns-then-amount-gt-GREATEST_AMOUNT
+returns-then-amount-gt-GREATEST_AMOUNT c =
+    first_found c.loop-k.k _ _ _ c.loop-k.invariant (refuse_some _ _ c.new.result (lt-ltb _ _ c.if-amount-gt-GREATEST_AMOUNT.true) c.new.ensures) c.loop-k-test.true

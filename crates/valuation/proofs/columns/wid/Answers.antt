@@ -18,4 +18,4 @@ returns g c =
       | then-y-eq120 w ↦ w.next-is ∙ sym (level_end f i t WidowDeath (λ x. scale) (y + 1) (omega (arith, w.if-y-eq120.true)))
       | else-y-eq120 w ↦ w.next-is ∙ ap (λ n. get_or c.args.widows.now n 0) (sym (zero-add (y + 1))) ∙ c.requires.0.1 (y + 1) (omega (arith, w.if-y-eq120.false, c.requires.1))
     ] in
-    c.product.ensures ∙ ap (λ m. product m c.if-y-eq120.next) c.to-next-year.ensures.value ∙ ap (product (to_next_year f i t WidowDeath y)) next
+    c.product.ensures ∙ ap (λ m. product m c.if-y-eq120.next) c.to_next_year.ensures.value ∙ ap (product (to_next_year f i t WidowDeath y)) next

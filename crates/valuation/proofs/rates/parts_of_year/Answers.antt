@@ -9,8 +9,8 @@ fixed-loss-requires c =
     let l = loss_small c.args.interest c.args.t c.loop-m.m c.requires.1.0 c.loop-m-test.true in
     (whole_some c.args.interest c.args.t c.loop-m.m c.requires.1.0, omega arith)
 
-pub overflow-add-loss : goal.overflow-add-loss
-overflow-add-loss c =
+pub overflow_add-loss : goal.overflow_add-loss
+overflow_add-loss c =
     let i = c.args.interest in
     let t = c.args.t in
     omega (
@@ -24,8 +24,8 @@ fixed-rest-requires c =
     let l = kept_small c.args.interest c.args.t c.loop-m.m c.requires.1.0 in
     (whole_some c.args.interest c.args.t c.loop-m.m c.requires.1.0, omega arith)
 
-pub overflow-add-rest : goal.overflow-add-rest
-overflow-add-rest c =
+pub overflow_add-rest : goal.overflow_add-rest
+overflow_add-rest c =
     let i = c.args.interest in
     let t = c.args.t in
     omega (

@@ -5,7 +5,7 @@ use Rattle.valuation.proofs.value.sum_of.Goals as goal
 
 pub returns-in-Retired : goal.returns-in-Retired
 returns-in-Retired g c =
-    let told = c.sum-along-life.ensures in
+    let told = c.sum_along_life.ensures in
     let s = ⊎_elim {C = Summed _ _ _ _ _ _ _ c.args.benefit} (λ same. summed_as _ _ _ _ _ _ _ c.args.benefit Retired same c.requires.1.1.1.1 told.low told.short)
     (λ same. summed_as _ _ _ _ _ _ _ c.args.benefit Population same c.requires.1.1.1.1 told.low told.short)
     c.in-Retired.is in
@@ -13,19 +13,19 @@ returns-in-Retired g c =
 
 pub returns-in-Invalid : goal.returns-in-Invalid
 returns-in-Invalid g c =
-    let told = c.sum-along-life-in-Invalid.ensures in
+    let told = c.sum_along_life-in-Invalid.ensures in
     let s = summed_as _ _ _ _ _ _ _ c.args.benefit Invalid c.in-Invalid.is c.requires.1.1.1.1 told.low told.short in
     record { low = s.0; high = s.1; len = told.len }
 
 pub returns-in-Widow : goal.returns-in-Widow
 returns-in-Widow g c =
-    let told = c.sum-along-life-in-Widow.ensures in
+    let told = c.sum_along_life-in-Widow.ensures in
     let s = summed_as _ _ _ _ _ _ _ c.args.benefit Widow c.in-Widow.is c.requires.1.1.1.1 told.low told.short in
     record { low = s.0; high = s.1; len = told.len }
 
 pub returns-in-RetiredWidow : goal.returns-in-RetiredWidow
 returns-in-RetiredWidow g c =
-    let told = c.sum-along-life-in-RetiredWidow.ensures in
+    let told = c.sum_along_life-in-RetiredWidow.ensures in
     let s = ⊎_elim {C = Summed _ _ _ _ _ _ _ c.args.benefit} (λ same. summed_as _ _ _ _ _ _ _ c.args.benefit RetiredWidow same c.requires.1.1.1.1 told.low told.short)
     (λ same. summed_as _ _ _ _ _ _ _ c.args.benefit PopulationWidow same c.requires.1.1.1.1 told.low told.short)
     c.in-RetiredWidow.is in
@@ -33,12 +33,12 @@ returns-in-RetiredWidow g c =
 
 pub returns-in-InvalidWidow : goal.returns-in-InvalidWidow
 returns-in-InvalidWidow g c =
-    let told = c.sum-along-life-in-InvalidWidow.ensures in
+    let told = c.sum_along_life-in-InvalidWidow.ensures in
     let s = summed_as _ _ _ _ _ _ _ c.args.benefit InvalidWidow c.in-InvalidWidow.is c.requires.1.1.1.1 told.low told.short in
     record { low = s.0; high = s.1; len = told.len }
 
-pub returns-in-default : goal.returns-in-default
-returns-in-default g c =
-    let told = c.along-active.ensures in
-    let s = summed_active _ _ _ _ _ _ _ c.args.benefit (c.in-default.not-Retired, c.in-default.not-Population, c.in-default.not-Invalid, c.in-default.not-Widow, c.in-default.not-RetiredWidow, c.in-default.not-PopulationWidow, c.in-default.not-InvalidWidow) c.requires.1.1.1.1 told.low told.short in
+pub returns-in_default : goal.returns-in_default
+returns-in_default g c =
+    let told = c.along_active.ensures in
+    let s = summed_active _ _ _ _ _ _ _ c.args.benefit (c.in_default.not-Retired, c.in_default.not-Population, c.in_default.not-Invalid, c.in_default.not-Widow, c.in_default.not-RetiredWidow, c.in_default.not-PopulationWidow, c.in_default.not-InvalidWidow) c.requires.1.1.1.1 told.low told.short in
     record { low = s.0; high = s.1; len = told.len }

@@ -8,30 +8,30 @@ use Rattle.stock.proofs.Showing.{shows_amend}
 use Rattle.stock.proofs.Heeding.{first_is, missing_is, had_refused, had_granted}
 use Rattle.stock.proofs.stock.Stock.amend.Goals as goal
 
-pub returns-in-err-changed : goal.returns-in-err-changed
-returns-in-err-changed g c =
-    let p = err_from_is_err_and c.from-residual.result c.from-residual.ensures.1 in
+pub returns-in_err-changed : goal.returns-in_err-changed
+returns-in_err-changed g c =
+    let p = err_from_is_err_and c.from_residual.result c.from_residual.ensures.1 in
     record {
-      heeds = λ h had. let why = first_is _ _ _ c.in-err-changed.ensures in (rw (p.1, p.2) why, had_refused (g.B.Basis.figures c.args.self.now.basis) c.args.self.now.terms.interest c.args.self.now.terms.instalments h (Amend c.args.key (promised c.args.promise) _) _ _ had why);
+      heeds = λ h had. let why = first_is _ _ _ c.in_err-changed.ensures in (rw (p.1, p.2) why, had_refused (g.B.Basis.figures c.args.self.now.basis) c.args.self.now.terms.interest c.args.self.now.terms.instalments h (Amend c.args.key (promised c.args.promise) _) _ _ had why);
       kept = (refl, refl);
       still = rw p.1 refl;
     }
 
-pub returns-in-err-place : goal.returns-in-err-place
-returns-in-err-place g c =
-    let p = err_from_is_err_and c.from-residual-in-err-place.result c.from-residual-in-err-place.ensures.1 in
+pub returns-in_err-place : goal.returns-in_err-place
+returns-in_err-place g c =
+    let p = err_from_is_err_and c.from_residual-in_err-place.result c.from_residual-in_err-place.ensures.1 in
     record {
-      heeds = λ h had. let why = passed_on _ _ c.in-ok-changed.ensures.0 ∙ missing_is (g.B.Basis.figures c.args.self.now.basis) c.args.self.now.terms.interest c.args.self.now.terms.instalments _ _ c.args.key had ∙ c.in-err-place.ensures in (rw (p.1, p.2) why, had_refused (g.B.Basis.figures c.args.self.now.basis) c.args.self.now.terms.interest c.args.self.now.terms.instalments h (Amend c.args.key (promised c.args.promise) _) _ _ had why);
+      heeds = λ h had. let why = passed_on _ _ c.in_ok-changed.ensures.0 ∙ missing_is (g.B.Basis.figures c.args.self.now.basis) c.args.self.now.terms.interest c.args.self.now.terms.instalments _ _ c.args.key had ∙ c.in_err-place.ensures in (rw (p.1, p.2) why, had_refused (g.B.Basis.figures c.args.self.now.basis) c.args.self.now.terms.interest c.args.self.now.terms.instalments h (Amend c.args.key (promised c.args.promise) _) _ _ had why);
       kept = (refl, refl);
       still = rw p.1 refl;
     }
 
 pub returns : goal.returns
 returns g c = record {
-  heeds = λ h had. let none = passed_on _ _ c.in-ok-changed.ensures.0 ∙ missing_is (g.B.Basis.figures c.args.self.now.basis) c.args.self.now.terms.interest c.args.self.now.terms.instalments _ _ c.args.key had ∙ c.in-ok-place.ensures.0 in (
+  heeds = λ h had. let none = passed_on _ _ c.in_ok-changed.ensures.0 ∙ missing_is (g.B.Basis.figures c.args.self.now.basis) c.args.self.now.terms.interest c.args.self.now.terms.instalments _ _ c.args.key had ∙ c.in_ok-place.ensures.0 in (
     (none, tt),
     had_granted (g.B.Basis.figures c.args.self.now.basis) c.args.self.now.terms.interest c.args.self.now.terms.instalments h (Amend c.args.key (promised c.args.promise) _) _ none
-        (subst (Shows (g.B.Basis.figures c.args.self.now.basis) c.args.self.now.terms.interest c.args.self.now.terms.instalments _) (sym c.put.ensures) (shows_amend (g.B.Basis.figures c.args.self.now.basis) c.args.self.now.terms.interest c.args.self.now.terms.instalments _ _ c.args.key c.in-ok-place.place _ c.in-ok-changed.changed had c.args.self.now.slots.full c.in-ok-place.ensures.1 c.in-ok-changed.ensures.1.0 c.in-ok-changed.ensures.1.1)),
+        (subst (Shows (g.B.Basis.figures c.args.self.now.basis) c.args.self.now.terms.interest c.args.self.now.terms.instalments _) (sym c.put.ensures) (shows_amend (g.B.Basis.figures c.args.self.now.basis) c.args.self.now.terms.interest c.args.self.now.terms.instalments _ _ c.args.key c.in_ok-place.place _ c.in_ok-changed.changed had c.args.self.now.slots.full c.in_ok-place.ensures.1 c.in_ok-changed.ensures.1.0 c.in_ok-changed.ensures.1.1)),
   );
   kept = (refl, refl);
   still = tt;

@@ -7,13 +7,13 @@ use Rattle.table.proofs.rows.Rows.of.Goals as goal
 pub returns : goal.returns
 returns g c =
     let basis = c.args.basis.now in
-    tabled_is (g.B.Basis.figures basis) (g.met.B.Basis.lawful basis) _ c.final-age.ensures
+    tabled_is (g.B.Basis.figures basis) (g.met.B.Basis.lawful basis) _ c.final_age.ensures
     (elim [
-      | Invalidity ↦ c.row-of.ensures
-      | ActiveDeath ↦ c.row-of-2.ensures
-      | InvalidDeath ↦ c.row-of-3.ensures
-      | PopulationDeath ↦ c.row-of-4.ensures
-      | WidowDeath ↦ c.row-of-5.ensures
-      | Married ↦ c.row-of-6.ensures
-      | SpouseAge ↦ c.row-of-7.ensures
+      | Invalidity ↦ c.row_of.ensures
+      | ActiveDeath ↦ c.row_of-2.ensures
+      | InvalidDeath ↦ c.row_of-3.ensures
+      | PopulationDeath ↦ c.row_of-4.ensures
+      | WidowDeath ↦ c.row_of-5.ensures
+      | Married ↦ c.row_of-6.ensures
+      | SpouseAge ↦ c.row_of-7.ensures
     ])

@@ -18,6 +18,6 @@ returns g c =
     let f = g.B.Basis.figures basis in
     let p = c.args.self.now in
     record {
-      value = c.share-below.ensures ∙ sym (active_below f p.rates.interest p.rates.instalments p.benefit (p.age + c.args.year) (omega (arith, c.requires.0.2)));
-      modest = omega (arith, c.share-below.ensures, below_bound f (g.met.B.Basis.lawful basis) p.rates.interest p.rates.instalments p.rates.some p.rates.few p.benefit (p.age + c.args.year));
+      value = c.share_below.ensures ∙ sym (active_below f p.rates.interest p.rates.instalments p.benefit (p.age + c.args.year) (omega (arith, c.requires.0.2)));
+      modest = omega (arith, c.share_below.ensures, below_bound f (g.met.B.Basis.lawful basis) p.rates.interest p.rates.instalments p.rates.some p.rates.few p.benefit (p.age + c.args.year));
     }

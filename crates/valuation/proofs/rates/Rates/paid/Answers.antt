@@ -8,8 +8,8 @@ product-requires c =
     let rates = c.args.self.now in
     omega (arith, rates.lost, loss_below rates.interest rates.instalments rates.some)
 
-pub overflow-add-result : goal.overflow-add-result
-overflow-add-result c =
+pub overflow_add-result : goal.overflow_add-result
+overflow_add-result c =
     let rates = c.args.self.now in
     omega (
       arith,

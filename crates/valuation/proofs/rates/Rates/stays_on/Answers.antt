@@ -6,11 +6,11 @@ use Rattle.valuation.proofs.Levels.{shrinks}
 use Rattle.valuation.proofs.Shares.{discount_below}
 use Rattle.valuation.proofs.rates.Rates.stays_on.Goals as goal
 
-pub overflow-sub-able : goal.overflow-sub-able
-overflow-sub-able g c = omega (arith, (g.met.B.Basis.lawful c.args.basis.now).exits c.args.age)
+pub overflow_sub-able : goal.overflow_sub-able
+overflow_sub-able g c = omega (arith, (g.met.B.Basis.lawful c.args.basis.now).exits c.args.age)
 
-pub overflow-sub-staying : goal.overflow-sub-staying
-overflow-sub-staying g c = omega (arith, (g.met.B.Basis.lawful c.args.basis.now).exits c.args.age)
+pub overflow_sub-staying : goal.overflow_sub-staying
+overflow_sub-staying g c = omega (arith, (g.met.B.Basis.lawful c.args.basis.now).exits c.args.age)
 
 pub returns : goal.returns
 returns g c =
