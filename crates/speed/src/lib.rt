@@ -35,8 +35,8 @@ fn lower<B: Basis>(
     amounts: &[u32],
     column: &mut [u64],
 ) -> u64
-    requires { (amounts.now ≡ yearly (figures basis.now) benefit age) × (length column.old ≡ 512) }
-    ensures value { result ≡ lower_or_none (figures basis.now) terms.interest terms.instalments benefit age }
+    requires { (amounts.now ≡ yearly (B.figures basis.now) benefit age) × (length column.old ≡ 512) }
+    ensures value { result ≡ lower_or_none (B.figures basis.now) terms.interest terms.instalments benefit age }
     ensures len { length column.new ≡ 512 }
 {
     match value(basis, terms, benefit, age, amounts, column) {
@@ -54,8 +54,8 @@ fn repeat<B: Basis>(
     amounts: &[u32],
     times: u32,
 ) -> u64
-    requires { amounts.now ≡ yearly (figures basis.now) benefit age }
-    ensures { result ≡ repeated (figures basis.now) terms.interest terms.instalments benefit age times }
+    requires { amounts.now ≡ yearly (B.figures basis.now) benefit age }
+    ensures { result ≡ repeated (B.figures basis.now) terms.interest terms.instalments benefit age times }
 {
     let mut column = [0; LEAST_COLUMN];
     let mut sum = 0u64;
@@ -74,7 +74,7 @@ fn repeat_at<B: Basis>(
     age: u32,
     times: u32,
 ) -> u64
-    ensures { result ≡ repeated_at (figures basis.now) interest instalments place age times }
+    ensures { result ≡ repeated_at (B.figures basis.now) interest instalments place age times }
 {
     let Ok(terms) = Terms::new(interest, instalments) else {
         return 0;

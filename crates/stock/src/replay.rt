@@ -35,7 +35,7 @@ impl<B: Basis> Stock<B> {
         column: usize,
     ) -> Result<(), Fault>
         requires { length places.old ≡ 512 }
-        ensures heeds { Heeds (figures self.old.basis) self.old.terms.interest self.old.terms.instalments self.old.slots.records self.new.slots.records (Admit key (promised promise.entry) column) result (λ _ _. Unit {0}) }
+        ensures heeds { Heeds (B.figures self.old.basis) self.old.terms.interest self.old.terms.instalments self.old.slots.records self.new.slots.records (Admit key (promised promise.entry) column) result (λ _ _. Unit {0}) }
         ensures kept { (self.new.basis ≡ self.old.basis) × (self.new.terms ≡ self.old.terms) }
         ensures still { OnErr result (self.new ≡ self.old) }
     {
@@ -50,7 +50,7 @@ impl<B: Basis> Stock<B> {
         column: usize,
     ) -> Result<(), Fault>
         requires { length places.old ≡ 512 }
-        ensures heeds { Heeds (figures self.old.basis) self.old.terms.interest self.old.terms.instalments self.old.slots.records self.new.slots.records (Amend key (promised promise.entry) column) result (λ _ _. Unit {0}) }
+        ensures heeds { Heeds (B.figures self.old.basis) self.old.terms.interest self.old.terms.instalments self.old.slots.records self.new.slots.records (Amend key (promised promise.entry) column) result (λ _ _. Unit {0}) }
         ensures kept { (self.new.basis ≡ self.old.basis) × (self.new.terms ≡ self.old.terms) }
         ensures still { OnErr result (self.new ≡ self.old) }
     {
@@ -59,7 +59,7 @@ impl<B: Basis> Stock<B> {
 
     // Plays one call.
     pub fn play(&mut self, call: Call<'_>) -> Result<Answer, Fault>
-        ensures heeds { Heeds (figures self.old.basis) self.old.terms.interest self.old.terms.instalments self.old.slots.records self.new.slots.records (told call.entry) result (Answers (figures self.old.basis) self.old.terms.interest self.old.terms.instalments (told call.entry)) }
+        ensures heeds { Heeds (B.figures self.old.basis) self.old.terms.interest self.old.terms.instalments self.old.slots.records self.new.slots.records (told call.entry) result (Answers (B.figures self.old.basis) self.old.terms.interest self.old.terms.instalments (told call.entry)) }
         ensures kept { (self.new.basis ≡ self.old.basis) × (self.new.terms ≡ self.old.terms) }
         ensures still { OnErr result (self.new ≡ self.old) }
     {
@@ -85,7 +85,7 @@ impl<B: Basis> Stock<B> {
 
     // Plays calls one after another; a refused one changes nothing.
     pub fn run(&mut self, calls: &[Call<'_>])
-        ensures had { (h : List Calls) → Had (figures self.old.basis) self.old.terms.interest self.old.terms.instalments h self.old.slots.records → Had (figures self.old.basis) self.old.terms.interest self.old.terms.instalments (h ++ map told calls.now) self.new.slots.records }
+        ensures had { (h : List Calls) → Had (B.figures self.old.basis) self.old.terms.interest self.old.terms.instalments h self.old.slots.records → Had (B.figures self.old.basis) self.old.terms.interest self.old.terms.instalments (h ++ map told calls.now) self.new.slots.records }
         ensures kept { (self.new.basis ≡ self.old.basis) × (self.new.terms ≡ self.old.terms) }
     {
         for call in calls {
@@ -96,7 +96,7 @@ impl<B: Basis> Stock<B> {
 
 // The totals of a stock that is opened, and has had these calls.
 pub fn replay<B: Basis + Drop>(basis: B, terms: Terms, calls: &[Call<'_>]) -> Pair
-    ensures { TotalOf (figures basis) terms.interest terms.instalments (register (figures basis).final_age (map told calls.now)) result }
+    ensures { TotalOf (B.figures basis) terms.interest terms.instalments (register (B.figures basis).final_age (map told calls.now)) result }
 {
     let mut stock = Stock::open(basis, terms);
     stock.run(calls);

@@ -3,7 +3,8 @@ use Rattle.std.specs.Prelude.{ℕ, List, slice_index}
 use Rattle.basis.specs.declared.kind.Kind.{Kind}
 use Rattle.basis.specs.declared.kind.Kind.TheVariants.{Invalidity, ActiveDeath, InvalidDeath, PopulationDeath, WidowDeath, Married, SpouseAge}
 use Rattle.table.specs.declared.rows.Rows.{Rows}
-use Rattle.basis.specs.Figures.{Figures, listed}
+use Rattle.basis.specs.Figures.{Figures, Lawful, Aged, Limited, Exits, Seamless, Closed, listed}
+use Rattle.basis.specs.Listed.{listed_outside}
 
 abbrev pub row_of : Rows → Kind → List ℕ
 row_of r Invalidity = r.invalidity
@@ -16,3 +17,8 @@ row_of r SpouseAge = r.spouse_age
 
 abbrev pub tabled : Rows → Figures
 tabled r = listed r.final_age (λ k x. slice_index (row_of r k) x)
+
+-- rows that keep the laws of their figures are a basis
+pub tabled_lawful : (r : Rows) → Aged (tabled r) → Limited (tabled r) → Exits (tabled r) → Seamless (tabled r) → Closed (tabled r) → Lawful (tabled r)
+tabled_lawful r aged limited exits seamless closed =
+    record { aged = aged; limited = limited; ended = listed_outside r.final_age _; exits = exits; seamless = seamless; closed = closed }

@@ -12,8 +12,7 @@ ghost use Rattle.table.specs.Book.{book_fault, book_length, buffer_fault, decode
 ghost use Rattle.fault.specs.Faults.{Outcome};
 ghost use Rattle.basis.specs.Figures.{Aged, Limited, Exits, Seamless, Closed};
 ghost use Rattle.basis.specs.StraightLine.{straight_line};
-ghost use Rattle.table.specs.Table.{tabled};
-ghost use Rattle.std.proofs.Common.{rules, arith};
+ghost use Rattle.table.specs.Table.{tabled, tabled_lawful};
 
 use crate::book::book_length;
 use crate::book_reader::{check_contents, check_length, check_opening, read_rows};
@@ -104,7 +103,7 @@ impl Table {
 impl Basis for Table {
     ghost figures = { λ b. tabled b.rows };
 
-    ghost lawful = { first_of (Prim.search rules, Prim.grind (arith, Self.row.coded.inj)) };
+    ghost lawful = { λ b. tabled_lawful b.rows b.aged b.limited b.exits b.seamless b.closed };
 
     fn final_age(&self) -> u32 {
         self.rows.final_age

@@ -23,7 +23,7 @@ pub(crate) struct Rows {
 impl Rows {
     // The figures of any basis.
     pub(crate) fn of<B: Basis>(basis: &B) -> Rows
-        ensures { tabled result ≡ figures basis.now }
+        ensures { tabled result ≡ B.figures basis.now }
     {
         Rows {
             final_age: basis.final_age(),
@@ -65,7 +65,7 @@ impl Rows {
 
 // A list of a basis, from age 0 to the last.
 fn row_of<B: Basis>(basis: &B, kind: Kind) -> [u32; ROW]
-    ensures { (x : ℕ) → x < 121 → slice_index result x ≡ (figures basis.now).figure kind x }
+    ensures { (x : ℕ) → x < 121 → slice_index result x ≡ (B.figures basis.now).figure kind x }
 {
     let mut row = [0; ROW];
     for age in 0..AGES {

@@ -16,8 +16,8 @@ use basis::kind::{CERTAIN, Kind};
 
 // Invalidity in a year: the yearly pension from the next year on.
 fn turning_invalid<B: Basis>(rates: &Rates, basis: &B, column: &[u64], age: u32) -> u64
-    requires { (FilledAt 121 (level_of (figures basis.now) rates.now.interest rates.now.instalments InvalidDeath Annuities) column.now) × (age ≤ 119) }
-    ensures { result ≡ turning_invalid_number (figures basis.now) rates.now.interest rates.now.instalments age }
+    requires { (FilledAt 121 (level_of (B.figures basis.now) rates.now.interest rates.now.instalments InvalidDeath Annuities) column.now) × (age ≤ 119) }
+    ensures { result ≡ turning_invalid_number (B.figures basis.now) rates.now.interest rates.now.instalments age }
 {
     let next = column[AGES + (age as usize + 1)];
     let pension = product(rates.to_next_year(basis, Kind::InvalidDeath, age), next);
@@ -27,8 +27,8 @@ fn turning_invalid<B: Basis>(rates: &Rates, basis: &B, column: &[u64], age: u32)
 
 // Invalidity in a year: the widow's pension after a later death, or after one in the same year.
 fn turning_invalid_widow<B: Basis>(rates: &Rates, basis: &B, column: &[u64], age: u32) -> u64
-    requires { (WidowsFirst (figures basis.now) rates.now.interest rates.now.instalments column.now) × ((FilledAt 121 (level_of (figures basis.now) rates.now.interest rates.now.instalments InvalidDeath Widows) column.now) × (age ≤ 119)) }
-    ensures { result ≡ turning_invalid_widow_number (figures basis.now) rates.now.interest rates.now.instalments age }
+    requires { (WidowsFirst (B.figures basis.now) rates.now.interest rates.now.instalments column.now) × ((FilledAt 121 (level_of (B.figures basis.now) rates.now.interest rates.now.instalments InvalidDeath Widows) column.now) × (age ≤ 119)) }
+    ensures { result ≡ turning_invalid_widow_number (B.figures basis.now) rates.now.interest rates.now.instalments age }
 {
     let next = column[AGES + (age as usize + 1)];
     let later = product(rates.to_next_year(basis, Kind::InvalidDeath, age), next);
@@ -48,8 +48,8 @@ fn share_below<B: Basis>(
     benefit: Benefit,
     age: u32,
 ) -> u64
-    requires { (ActiveReads (figures basis.now) rates.now.interest rates.now.instalments benefit column.now) × (age ≤ 119) }
-    ensures { result ≡ below_number (figures basis.now) rates.now.interest rates.now.instalments benefit age }
+    requires { (ActiveReads (B.figures basis.now) rates.now.interest rates.now.instalments benefit column.now) × (age ≤ 119) }
+    ensures { result ≡ below_number (B.figures basis.now) rates.now.interest rates.now.instalments benefit age }
 {
     match benefit {
         Benefit::Active => rates.paid(rates.stays_on(basis, age)),

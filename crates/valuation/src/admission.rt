@@ -22,7 +22,7 @@ pub fn check_promise<B: Basis>(
     amounts: &[u32],
     column: &[u64],
 ) -> Result<(), Fault>
-    ensures { Outcome result (valuation_fault (figures basis.now).final_age benefit age amounts.now (length column.now)) (λ _. Unit {0}) }
+    ensures { Outcome result (valuation_fault (B.figures basis.now).final_age benefit age amounts.now (length column.now)) (λ _. Unit {0}) }
 {
     let final_age = basis.final_age();
     if age < benefit.first_age(final_age) || age > benefit.last_age(final_age) {

@@ -14,8 +14,8 @@ pub(crate) const AGES: usize = 121;
 
 // The widow's pension that a death leaves, for a widow aged y.
 fn wid<B: Basis>(rates: &Rates, basis: &B, widows: &[u64], y: u32) -> u64
-    requires { (WidowsFirst (figures basis.now) rates.now.interest rates.now.instalments widows.now) × (y ≤ 120) }
-    ensures { result ≡ wid_number (figures basis.now) rates.now.interest rates.now.instalments y }
+    requires { (WidowsFirst (B.figures basis.now) rates.now.interest rates.now.instalments widows.now) × (y ≤ 120) }
+    ensures { result ≡ wid_number (B.figures basis.now) rates.now.interest rates.now.instalments y }
 {
     let next = if y == 120 { 0 } else { widows[y as usize + 1] };
     product(rates.to_next_year(basis, Kind::WidowDeath, y), next)
@@ -23,8 +23,8 @@ fn wid<B: Basis>(rates: &Rates, basis: &B, widows: &[u64], y: u32) -> u64
 
 // The same for whoever dies at an age, married or not.
 pub(crate) fn left<B: Basis>(rates: &Rates, basis: &B, widows: &[u64], age: u32) -> u64
-    requires { WidowsFirst (figures basis.now) rates.now.interest rates.now.instalments widows.now }
-    ensures { result ≡ left_number (figures basis.now) rates.now.interest rates.now.instalments age }
+    requires { WidowsFirst (B.figures basis.now) rates.now.interest rates.now.instalments widows.now }
+    ensures { result ≡ left_number (B.figures basis.now) rates.now.interest rates.now.instalments age }
 {
     let married = fixed(basis.figure(Kind::Married, age) as u64, CERTAIN as u64);
     product(
@@ -41,8 +41,8 @@ pub(crate) fn widowed<B: Basis>(
     kind: Kind,
     age: u32,
 ) -> u64
-    requires { WidowsFirst (figures basis.now) rates.now.interest rates.now.instalments widows.now }
-    ensures { result ≡ widowed_number (figures basis.now) rates.now.interest rates.now.instalments kind age }
+    requires { WidowsFirst (B.figures basis.now) rates.now.interest rates.now.instalments widows.now }
+    ensures { result ≡ widowed_number (B.figures basis.now) rates.now.interest rates.now.instalments kind age }
 {
     let dying = fixed(basis.figure(kind, age) as u64, CERTAIN as u64);
     product(dying, left(rates, basis, widows, age))
@@ -57,8 +57,8 @@ pub(crate) fn level_share<B: Basis>(
     level: Level,
     age: u32,
 ) -> u64
-    requires { Reads (figures basis.now) rates.now.interest rates.now.instalments level widows.now }
-    ensures { result ≡ level_share (figures basis.now) rates.now.interest rates.now.instalments kind level age }
+    requires { Reads (B.figures basis.now) rates.now.interest rates.now.instalments level widows.now }
+    ensures { result ≡ level_share (B.figures basis.now) rates.now.interest rates.now.instalments kind level age }
 {
     match level {
         Level::Annuities => SCALE,
@@ -76,8 +76,8 @@ pub(crate) fn fill<B: Basis>(
     column: &mut [u64],
     place: usize,
 )
-    requires { (Reads (figures basis.now) rates.now.interest rates.now.instalments level column.old) × ((Apart level place) × (place + 121 ≤ length column.old)) }
-    ensures filled { FilledAt place (level_of (figures basis.now) rates.now.interest rates.now.instalments kind level) column.new }
+    requires { (Reads (B.figures basis.now) rates.now.interest rates.now.instalments level column.old) × ((Apart level place) × (place + 121 ≤ length column.old)) }
+    ensures filled { FilledAt place (level_of (B.figures basis.now) rates.now.interest rates.now.instalments kind level) column.new }
     ensures before { (x : ℕ) → x < place → slice_index column.new x ≡ slice_index column.old x }
     ensures len { length column.new ≡ length column.old }
 {

@@ -33,8 +33,8 @@ pub(crate) fn run<B: Basis, P: Path<B>>(
     column: &[u64],
     amounts: &[u32],
 ) -> (u64, u64)
-    requires { (ready path.now basis.now column.now) × ((length amounts.now ≤ 121) × (((k : ℕ) → slice_index amounts.now k ≤ 1000000))) }
-    ensures { (result.0 ≡ running (survivals path.now basis.now) (shares path.now basis.now) (λ k. weight (slice_index amounts.now k)) (length amounts.now) 0) × (result.1 ≡ slack (λ k. weight (slice_index amounts.now k)) (length amounts.now) 0) }
+    requires { (P.ready path.now basis.now column.now) × ((length amounts.now ≤ 121) × (((k : ℕ) → slice_index amounts.now k ≤ 1000000))) }
+    ensures { (result.0 ≡ running (P.survivals path.now basis.now) (P.shares path.now basis.now) (λ k. weight (slice_index amounts.now k)) (length amounts.now) 0) × (result.1 ≡ slack (λ k. weight (slice_index amounts.now k)) (length amounts.now) 0) }
 {
     let mut low = 0;
     let mut short = 0;

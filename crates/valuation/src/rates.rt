@@ -57,7 +57,7 @@ impl Rates {
     // The discounted chance of a life to go on for another year: v·p.
     pub(crate) fn goes_on<B: Basis>(&self, basis: &B, kind: Kind, age: u32) -> u64
         ensures below { result ≤ scale }
-        ensures value { result ≡ goes_on (figures basis.now) self.now.interest self.now.instalments kind age }
+        ensures value { result ≡ goes_on (B.figures basis.now) self.now.interest self.now.instalments kind age }
     {
         product(self.discount, opposite(basis.figure(kind, age)))
     }
@@ -65,7 +65,7 @@ impl Rates {
     // The discounted chance of an active to be one for another year.
     pub(crate) fn stays_on<B: Basis>(&self, basis: &B, age: u32) -> u64
         ensures below { result ≤ scale }
-        ensures value { result ≡ stays_on (figures basis.now) self.now.interest self.now.instalments age }
+        ensures value { result ≡ stays_on (B.figures basis.now) self.now.interest self.now.instalments age }
     {
         let able = CERTAIN - basis.figure(Kind::Invalidity, age);
         let staying = able - basis.figure(Kind::ActiveDeath, age);
@@ -82,7 +82,7 @@ impl Rates {
 
     // A year's pension of a population at an age.
     pub(crate) fn pension<B: Basis>(&self, basis: &B, kind: Kind, age: u32) -> u64
-        ensures { result ≡ pension_number (figures basis.now) self.now.interest self.now.instalments kind age }
+        ensures { result ≡ pension_number (B.figures basis.now) self.now.interest self.now.instalments kind age }
     {
         self.paid(self.goes_on(basis, kind, age))
     }
@@ -90,7 +90,7 @@ impl Rates {
     // The discounted chance to live from mid-year to the year's end: v·half.
     pub(crate) fn to_next_year<B: Basis>(&self, basis: &B, kind: Kind, age: u32) -> u64
         ensures below { result ≤ scale }
-        ensures value { result ≡ to_next_year (figures basis.now) self.now.interest self.now.instalments kind age }
+        ensures value { result ≡ to_next_year (B.figures basis.now) self.now.interest self.now.instalments kind age }
     {
         product(self.discount, half(basis.figure(kind, age)))
     }

@@ -34,8 +34,8 @@ fn level_at<B: Basis>(
     final_age: u32,
     column: &mut [u64],
 ) -> u64
-    requires { (Reads (figures basis.now) rates.now.interest rates.now.instalments level column.old) × ((242 ≤ length column.old) × (final_age ≤ 80)) }
-    ensures value { result ≡ level_of (figures basis.now) rates.now.interest rates.now.instalments PopulationDeath level final_age }
+    requires { (Reads (B.figures basis.now) rates.now.interest rates.now.instalments level column.old) × ((242 ≤ length column.old) × (final_age ≤ 80)) }
+    ensures value { result ≡ level_of (B.figures basis.now) rates.now.interest rates.now.instalments PopulationDeath level final_age }
     ensures before { (x : ℕ) → x < 121 → slice_index column.new x ≡ slice_index column.old x }
     ensures len { length column.new ≡ length column.old }
 {
@@ -51,9 +51,9 @@ fn prepare<B: Basis>(
     final_age: u32,
     column: &mut [u64],
 ) -> u64
-    requires { (242 ≤ length column.old) × ((final_age ≤ 80) × (final_age ≡ (figures basis.now).final_age)) }
-    ensures reads { ActiveReads (figures basis.now) rates.now.interest rates.now.instalments benefit column.new }
-    ensures at_final { result ≡ final_number (figures basis.now) rates.now.interest rates.now.instalments benefit }
+    requires { (242 ≤ length column.old) × ((final_age ≤ 80) × (final_age ≡ (B.figures basis.now).final_age)) }
+    ensures reads { ActiveReads (B.figures basis.now) rates.now.interest rates.now.instalments benefit column.new }
+    ensures at_final { result ≡ final_number (B.figures basis.now) rates.now.interest rates.now.instalments benefit }
     ensures len { length column.new ≡ length column.old }
 {
     match benefit {
@@ -121,7 +121,7 @@ fn prepare<B: Basis>(
 // Puts into the column what a value of amount 1 a year reads.
 fn lay_out<B: Basis>(rates: &Rates, basis: &B, level: Level, column: &mut [u64])
     requires { 242 ≤ length column.old }
-    ensures reads { Reads (figures basis.now) rates.now.interest rates.now.instalments level column.new }
+    ensures reads { Reads (B.figures basis.now) rates.now.interest rates.now.instalments level column.new }
     ensures len { length column.new ≡ length column.old }
 {
     match level {
@@ -140,8 +140,8 @@ fn along_life<B: Basis>(
     amounts: &[u32],
     column: &[u64],
 ) -> (u64, u64)
-    requires { (Reads (figures basis.now) rates.now.interest rates.now.instalments level column.now) × ((age ≤ 120) × ((length amounts.now ≤ 121) × (((k : ℕ) → slice_index amounts.now k ≤ 1000000)))) }
-    ensures low { result.0 ≡ running (λ k. goes_on (figures basis.now) rates.now.interest rates.now.instalments kind (age + k)) (λ k. level_share (figures basis.now) rates.now.interest rates.now.instalments kind level (age + k)) (λ k. weight (slice_index amounts.now k)) (length amounts.now) 0 }
+    requires { (Reads (B.figures basis.now) rates.now.interest rates.now.instalments level column.now) × ((age ≤ 120) × ((length amounts.now ≤ 121) × (((k : ℕ) → slice_index amounts.now k ≤ 1000000)))) }
+    ensures low { result.0 ≡ running (λ k. goes_on (B.figures basis.now) rates.now.interest rates.now.instalments kind (age + k)) (λ k. level_share (B.figures basis.now) rates.now.interest rates.now.instalments kind level (age + k)) (λ k. weight (slice_index amounts.now k)) (length amounts.now) 0 }
     ensures short { result.1 ≡ slack (λ k. weight (slice_index amounts.now k)) (length amounts.now) 0 }
 {
     let path = LifePath {
@@ -164,7 +164,7 @@ fn sum_along_life<B: Basis>(
     column: &mut [u64],
 ) -> (u64, u64)
     requires { (242 ≤ length column.old) × ((age ≤ 120) × ((length amounts.now ≤ 121) × (((k : ℕ) → slice_index amounts.now k ≤ 1000000)))) }
-    ensures low { result.0 ≡ running (λ k. goes_on (figures basis.now) rates.now.interest rates.now.instalments kind (age + k)) (λ k. level_share (figures basis.now) rates.now.interest rates.now.instalments kind level (age + k)) (λ k. weight (slice_index amounts.now k)) (length amounts.now) 0 }
+    ensures low { result.0 ≡ running (λ k. goes_on (B.figures basis.now) rates.now.interest rates.now.instalments kind (age + k)) (λ k. level_share (B.figures basis.now) rates.now.interest rates.now.instalments kind level (age + k)) (λ k. weight (slice_index amounts.now k)) (length amounts.now) 0 }
     ensures short { result.1 ≡ slack (λ k. weight (slice_index amounts.now k)) (length amounts.now) 0 }
     ensures len { length column.new ≡ length column.old }
 {
@@ -182,7 +182,7 @@ fn along_active<B: Basis>(
     column: &mut [u64],
 ) -> (u64, u64)
     requires { (242 ≤ length column.old) × ((age ≤ 120) × ((length amounts.now ≤ 121) × (((k : ℕ) → slice_index amounts.now k ≤ 1000000)))) }
-    ensures low { result.0 ≡ running (λ k. stays_on (figures basis.now) rates.now.interest rates.now.instalments (age + k)) (λ k. active_share (figures basis.now) rates.now.interest rates.now.instalments benefit (age + k)) (λ k. weight (slice_index amounts.now k)) (length amounts.now) 0 }
+    ensures low { result.0 ≡ running (λ k. stays_on (B.figures basis.now) rates.now.interest rates.now.instalments (age + k)) (λ k. active_share (B.figures basis.now) rates.now.interest rates.now.instalments benefit (age + k)) (λ k. weight (slice_index amounts.now k)) (length amounts.now) 0 }
     ensures short { result.1 ≡ slack (λ k. weight (slice_index amounts.now k)) (length amounts.now) 0 }
     ensures len { length column.new ≡ length column.old }
 {
@@ -207,9 +207,9 @@ fn sum_of<B: Basis>(
     amounts: &[u32],
     column: &mut [u64],
 ) -> (u64, u64)
-    requires { (242 ≤ length column.old) × ((age ≤ 120) × ((length amounts.now ≤ 121) × ((((k : ℕ) → slice_index amounts.now k ≤ 1000000)) × (length amounts.now ≡ span (figures basis.now).final_age benefit age)))) }
-    ensures low { result.0 ≡ low_units (figures basis.now) rates.now.interest rates.now.instalments benefit age amounts.now }
-    ensures high { result.0 + result.1 ≡ high_units (figures basis.now) rates.now.interest rates.now.instalments benefit age amounts.now }
+    requires { (242 ≤ length column.old) × ((age ≤ 120) × ((length amounts.now ≤ 121) × ((((k : ℕ) → slice_index amounts.now k ≤ 1000000)) × (length amounts.now ≡ span (B.figures basis.now).final_age benefit age)))) }
+    ensures low { result.0 ≡ low_units (B.figures basis.now) rates.now.interest rates.now.instalments benefit age amounts.now }
+    ensures high { result.0 + result.1 ≡ high_units (B.figures basis.now) rates.now.interest rates.now.instalments benefit age amounts.now }
     ensures len { length column.new ≡ length column.old }
 {
     match benefit {
@@ -272,7 +272,7 @@ pub fn value<B: Basis>(
     amounts: &[u32],
     column: &mut [u64],
 ) -> Result<Pair, Fault>
-    ensures answer { Outcome result (valuation_fault (figures basis.now).final_age benefit age amounts.now (length column.old)) (Valued (figures basis.now) terms.interest terms.instalments benefit age amounts.now) }
+    ensures answer { Outcome result (valuation_fault (B.figures basis.now).final_age benefit age amounts.now (length column.old)) (Valued (B.figures basis.now) terms.interest terms.instalments benefit age amounts.now) }
     ensures kept { (basis.now ≡ basis.now) × (amounts.now ≡ amounts.now) }
     ensures len { length column.new ≡ length column.old }
 {

@@ -29,5 +29,5 @@ returns c = λ f lawful z h.
     let over = c.loop-depth.invariant.1 f lawful z h in
     rw (take_rest layers c.loop-depth.depth) (elim c.loop-depth-test.branch [
       | else-loop-depth-test w ↦ reached_bottom layers f c.args.kind c.args.age c.loop-depth.depth c.loop-depth.age (omega arith) over
-      | then-loop-depth-test+else-age-ne-LAST-AGE w ↦ reached_last layers f c.args.kind c.args.age c.loop-depth.depth c.loop-depth.age lawful (omega arith) over
+      | then-loop-depth-test+else-age-ne-LAST_AGE w ↦ reached_last layers f c.args.kind c.args.age c.loop-depth.depth c.loop-depth.age lawful (omega arith) over
     ])

@@ -13,15 +13,15 @@ returns-in_err-check_figures c =
     let by = book_by_figures c.args.book.now c.in_ok-final_age.final_age (tabled c.read_rows-rows.result) opening.0 opening.1.0 c.in_ok-check_contents.ensures.0 c.in_ok-check_length.ensures.0 c.read_rows-rows.ensures.told in
     rw (p.1, p.2) (by.0 ∙ c.in_err-check_figures.ensures)
 
-pub invariant-of-result : goal.invariant-of-result
-invariant-of-result c =
+pub invariant_of-result : goal.invariant_of-result
+invariant_of-result c =
     let rows = c.read_rows-rows.result in
     let opening = c.in_ok-final_age.ensures in
     let passed = opening_passed c.args.book.now opening.0 in
     let low : 20 ≤ rows.final_age = omega (arith, c.read_rows-rows.ensures.aged, opening.1.0) in
     let high : rows.final_age ≤ 80 = omega (arith, c.read_rows-rows.ensures.aged, opening.1.0) in
     let lawful : Lawful (tabled rows) = figures_lawful (tabled rows) low high (listed_outside rows.final_age _) c.in_ok-check_figures.ensures.0 in
-    (lawful.aged, (lawful.limited, (lawful.exits, (lawful.seamless, (lawful.closed, tt)))))
+    record { aged = lawful.aged; limited = lawful.limited; exits = lawful.exits; seamless = lawful.seamless; closed = lawful.closed }
 
 pub returns : goal.returns
 returns c =

@@ -4,8 +4,5 @@ use Rattle.std.proofs.lemmas.Bool.{false≢true}
 use Rattle.valuation.proofs.Named.{each_benefit}
 use Rattle.valuation.proofs.benefit.Benefit.from_name.Goals as goal
 
-pub loop-benefit-preserved : goal.loop-benefit-preserved
-loop-benefit-preserved c = below_more _ _ c.loop-benefit.invariant (λ e. false≢true (c.if-eq.ensures.1 (c.name.ensures ∙ e)))
-
 pub returns : goal.returns
 returns c = each_benefit (λ b. name b ≡ c.args.text.now → ⊥) (λ i l. c.loop-benefit.invariant i (omega arith))
