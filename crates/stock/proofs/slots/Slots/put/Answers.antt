@@ -25,6 +25,10 @@ overflow_add-self-3 c = omega (arith, c.count_of.ensures, c.count_of-2.ensures, 
 carry : (s o n t o' n' s' : ℕ) → t ≡ s → o ≡ o' → n ≡ n' → s - o' + n' ≡ s' → t - o + n ≡ s'
 carry s o n t o' n' s' et eo en h = omega arith
 
-pub invariant-of-self : goal.invariant-of-self
-invariant-of-self c =
-    (length-set c.args.self.now.records c.args.place c.args.new ∙ c.args.self.now.full, (carry _ _ _ _ _ _ _ c.args.self.now.lows c.lower_of.ensures c.lower_of-2.ensures (carried low_of 1125899906842624 low_modest c.args.self.now.records c.args.place c.args.new c.index-self-place.result c.args.self.now.full c.requires).sum, (carry _ _ _ _ _ _ _ c.args.self.now.highs c.upper_of.ensures c.upper_of-2.ensures (carried high_of 1125899906842624 high_modest c.args.self.now.records c.args.place c.args.new c.index-self-place.result c.args.self.now.full c.requires).sum, (carry _ _ _ _ _ _ _ c.args.self.now.counted c.count_of.ensures c.count_of-2.ensures (carried (λ r. cond (taken r) 1 0) 1 one_each c.args.self.now.records c.args.place c.args.new c.index-self-place.result c.args.self.now.full c.requires).sum, tt))))
+pub invariant_of-self : goal.invariant_of-self
+invariant_of-self c = record {
+  full = length-set c.args.self.now.records c.args.place c.args.new ∙ c.args.self.now.full;
+  lows = carry _ _ _ _ _ _ _ c.args.self.now.lows c.lower_of.ensures c.lower_of-2.ensures (carried low_of 1125899906842624 low_modest c.args.self.now.records c.args.place c.args.new c.index-self-place.result c.args.self.now.full c.requires).sum;
+  highs = carry _ _ _ _ _ _ _ c.args.self.now.highs c.upper_of.ensures c.upper_of-2.ensures (carried high_of 1125899906842624 high_modest c.args.self.now.records c.args.place c.args.new c.index-self-place.result c.args.self.now.full c.requires).sum;
+  counted = carry _ _ _ _ _ _ _ c.args.self.now.counted c.count_of.ensures c.count_of-2.ensures (carried (λ r. cond (taken r) 1 0) 1 one_each c.args.self.now.records c.args.place c.args.new c.index-self-place.result c.args.self.now.full c.requires).sum;
+}
