@@ -1,13 +1,13 @@
 -- The layers obey the laws over any lawful figures, and what their code reads is what they tell. Assumes nothing.
-use Rattle.std.specs.Prelude.{◌≡◌, ℕ, ◌+◌, ◌-◌, ◌*◌, ◌/◌, ◌<◌, ◌≤◌, min, true, false, cond, ℤ, pos, ◌+ℤ◌, ◌==◌, nat_lt, refl}
+use Rattle.std.specs.Prelude.{◌≡◌, ℕ, ◌-◌, ◌<◌, ◌≤◌, cond, ℤ, pos, ◌+ℤ◌, ◌==◌, nat_lt, refl}
 use Rattle.std.proofs.Common.{ap, sym, ◌∙◌, arith}
 use Rattle.std.proofs.lemmas.Int.{ints, clamps}
-use Rattle.std.proofs.lemmas.Bool.{cond_both, cond-true, cond-false, lt-ltb, le-ltb, ltb-true, ltb-false, ne_eqb, eqb-false}
+use Rattle.std.proofs.lemmas.Bool.{cond_both, ltb-true}
 use Rattle.basis.specs.declared.kind.Kind.{Kind}
 use Rattle.basis.specs.declared.kind.Kind.TheVariants.{Invalidity, ActiveDeath, InvalidDeath, PopulationDeath, WidowDeath, Married, SpouseAge}
-use Rattle.basis.specs.Figures.{Figures, Lawful, listed, count, limit}
-use Rattle.basis.specs.Layers.{brought, moved_age, moved_widow, read_age, shifted, raised, raised_death, loaded, loaded_figure}
-use Rattle.basis.specs.Listed.{listed_inside, listed_outside, listed_lawful, count_most, limit_most}
+use Rattle.basis.specs.Figures.{Figures, Lawful, count, limit}
+use Rattle.basis.specs.Layers.{brought, moved_age, read_age, shifted, raised, raised_death, loaded, loaded_figure}
+use Rattle.basis.specs.Listed.{listed_inside, listed_lawful, count_most, limit_most}
 
 -- no figure is above a million
 pub million : (f : Figures) → Lawful f → (k : Kind) (x : ℕ) → f.figure k x ≤ 1000000

@@ -1,10 +1,10 @@
 -- The straight-line figures obey the laws. Assumes nothing.
-use Rattle.std.specs.Prelude.{◌≡◌, ℕ, ◌+◌, ◌-◌, ◌*◌, ◌/◌, ◌<◌, ◌≤◌, refl}
+use Rattle.std.specs.Prelude.{ℕ, ◌-◌, ◌*◌, ◌<◌, ◌≤◌, refl}
 use Rattle.std.proofs.Math.Nat.{div-le_of_le-mul}
 use Rattle.std.proofs.Common.{div-le_self, arith}
 use Rattle.basis.specs.declared.kind.Kind.{Kind}
 use Rattle.basis.specs.declared.kind.Kind.TheVariants.{Invalidity, ActiveDeath, InvalidDeath, PopulationDeath, WidowDeath, Married, SpouseAge}
-use Rattle.basis.specs.Figures.{Lawful, listed, count, limit}
+use Rattle.basis.specs.Figures.{Lawful, count, limit}
 use Rattle.basis.specs.StraightLine.{straight_line, line_figure, even_death}
 use Rattle.basis.specs.Listed.{listed_lawful}
 

@@ -1,5 +1,5 @@
 -- A stock's answers are those of its register. Assumes nothing.
-use Rattle.std.proofs.Common.{◌≡◌, ℕ, Bool, true, false, cond, not, ◌||◌, eqb, ltb, List, [], ◌∷◌, ◌++◌, length, is_some, Some, None, Ok, Err, sum_by, count_by, Option, Result, sym, refl, ap, ◌∙◌, subst}
+use Rattle.std.proofs.Common.{◌≡◌, ℕ, Bool, true, false, cond, not, ◌||◌, eqb, ltb, List, [], ◌∷◌, ◌++◌, length, is_some, Some, None, Ok, Err, sum_by, Option, Result, sym, refl, ap, ◌∙◌, subst}
 use Rattle.std.specs.List.{AllByRecursion as All}
 use Rattle.std.proofs.lemmas.Bool.{false≢true}
 use Rattle.std.proofs.lemmas.List.Sums.{fold_push}
@@ -11,7 +11,7 @@ use Rattle.valuation.specs.declared.pair.Pair.{Pair}
 use Rattle.valuation.specs.Benefits.{first_age, last_age, span}
 use Rattle.valuation.specs.Admission.{amounts_fault}
 use Rattle.stock.specs.declared.record.Record.{Record}
-use Rattle.stock.specs.Slots.{taken, low_of, high_of, found, vacancy_fault, missing_fault}
+use Rattle.stock.specs.Slots.{low_of, high_of, found, vacancy_fault, missing_fault}
 use Rattle.stock.specs.Register.{Promise, Entry, Call, Admit, Amend, in_force, promise_fault, unknown_fault, refusal, granted, unless, after, register}
 use Rattle.stock.specs.Law.{pair_of, totals, Enclosing}
 use Rattle.stock.specs.Told.{pair_for, Worth, Worthy, Shows, Had, Heeds, PairOf, TotalOf}

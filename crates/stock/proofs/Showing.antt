@@ -1,14 +1,13 @@
 -- The places of a stock show its register, from call to call. Assumes nothing.
-use Rattle.std.proofs.Common.{◌≡◌, ℕ, zero, suc, ◌+◌, ◌<◌, ◌≤◌, Bool, true, false, cond, eqb, List, [], ◌∷◌, length, get_or, set, replicate, is_some, Some, None, sum_by, count_by, Option, sym, refl, ap, ◌∙◌, subst, arith}
-use Rattle.std.specs.List.{AllByRecursion as All}
-use Rattle.std.proofs.lemmas.Bool.{false≢true, true≢false, eqb-true}
+use Rattle.std.proofs.Common.{◌≡◌, ℕ, zero, suc, ◌<◌, Bool, true, false, cond, eqb, List, [], ◌∷◌, length, get_or, set, replicate, is_some, Some, None, sum_by, Option, sym, refl, ap, ◌∙◌, subst, arith}
+use Rattle.std.proofs.lemmas.Bool.{false≢true, true≢false}
 use Rattle.std.proofs.lemmas.List.Sums.{sum_by-cons, sum_by-set}
 use Rattle.basis.specs.Figures.{Figures}
 use Rattle.valuation.specs.declared.pair.Pair.{Pair}
 use Rattle.stock.specs.declared.record.Record.{Record}
-use Rattle.stock.specs.Slots.{low_of, high_of, taken, Holds, Vacant, has_key, pair_in, found, vacancy_fault, missing_fault}
+use Rattle.stock.specs.Slots.{low_of, high_of, Holds, Vacant, has_key, pair_in, found}
 use Rattle.stock.specs.Register.{Promise, Entry, entry, in_force, exchanged, struck}
-use Rattle.stock.specs.Law.{pair_of, totals}
+use Rattle.stock.specs.Law.{pair_of}
 use Rattle.stock.specs.Told.{Apart, Once, pair_for, Worth, Worthy, Shows}
 use Rattle.stock.proofs.Keys.{some_inner}
 use Rattle.stock.proofs.Places.{Own, count_of, own_of, none_own, found_put, apart_put, clear_none, clear_own}

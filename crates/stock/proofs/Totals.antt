@@ -1,11 +1,11 @@
 -- The totals of a register enclose its exact sum. Assumes nothing.
-use Rattle.std.proofs.Common.{◌≡◌, ℕ, ◌+◌, ◌-◌, ◌*◌, ◌≤◌, List, [], ◌∷◌, length, sum_by, sym, refl, ap, ◌∙◌, subst, mul-le-mul_right, arith}
+use Rattle.std.proofs.Common.{ℕ, ◌+◌, ◌*◌, ◌≤◌, List, [], ◌∷◌, length, sum_by, sym, subst, mul-le-mul_right, arith}
 use Rattle.std.specs.List.{AllByRecursion as All}
 use Rattle.std.proofs.lemmas.List.Sums.{sum_by-cons}
 use Rattle.basis.specs.Figures.{Figures}
 use Rattle.valuation.specs.Fraction.{Fraction, whole, ◌⊕◌, ◌≼◌}
 use Rattle.stock.specs.Register.{Entry}
-use Rattle.stock.specs.Law.{exact_of, exact_sum, pair_of, totals, yearly, Enclosing}
+use Rattle.stock.specs.Law.{exact_of, exact_sum, pair_of, totals, Enclosing}
 use Rattle.stock.specs.Told.{Worth}
 
 -- bounds added up

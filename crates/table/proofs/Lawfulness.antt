@@ -1,10 +1,9 @@
 -- The checks of figures find nothing exactly where the laws hold. Assumes nothing.
-use Rattle.std.proofs.Common.{◌≡◌, ℕ, ◌+◌, ◌<◌, ◌≤◌, Bool, true, false, not, ◌&&◌, eqb, ltb, leb, List, length, get_or, Some, None, sym, refl, ap, ◌∙◌, subst, ⊎_elim, arith}
+use Rattle.std.proofs.Common.{◌≡◌, ℕ, ◌+◌, ◌<◌, ◌≤◌, not, eqb, ltb, leb, List, length, get_or, None, sym, ap, ◌∙◌, ⊎_elim, arith}
 use Rattle.std.proofs.lemmas.Bool.{ltb-false, le-ltb, le-leb, lt-leb, eqb-true, eq-eqb, and_cases, and_left, and_right, not-false, not_from_true, or_parts, cases_lt, both_ways}
 use Rattle.basis.specs.declared.kind.Kind.{Kind}
 use Rattle.basis.specs.declared.kind.Kind.TheVariants.{Invalidity, ActiveDeath, InvalidDeath, PopulationDeath, WidowDeath, Married, SpouseAge}
-use Rattle.fault.specs.Faults.{first_of}
-use Rattle.basis.specs.Figures.{Figures, Lawful, Ended, Limited, Exits, Seamless, Closed, count, limit, rank}
+use Rattle.basis.specs.Figures.{Figures, Lawful, Ended, Limited, Exits, Seamless, Closed, count, limit}
 use Rattle.table.specs.Book.{kind_at, opening_fault, contents_fault, length_fault, book_fault, figures_fault, limit_fault, list_fault, limit_fault_at, exits_fault, exits_fault_at, seam_fault, seam_fault_at, open_end_fault, decoded, decoded_by}
 use Rattle.fault.proofs.Firsts.{first_passes, first_passed, first_of_none, refuse_none, none_refuse, passed_on}
 

@@ -1,19 +1,19 @@
 -- A book read and written out is the same bytes; figures written out and read are the same figures. Assumes nothing.
-use Rattle.std.proofs.Common.{◌≡◌, ℕ, zero, suc, ◌+◌, ◌-◌, ◌*◌, ◌<◌, ◌≤◌, Bool, true, false, cond, not, ◌&&◌, ◌||◌, eqb, ltb, List, [], ◌∷◌, ◌++◌, length, get_or, take, drop, IfErr, None, Ok, Err, Result, sym, refl, ap, ◌∙◌, ⊎_elim, arith, take-add}
-use Rattle.std.proofs.lemmas.List.{append-nil, length-append, length-take-le, length-drop, take_at, drop_at, drop-drop, take_all, drop_more, get_or-take, get_or-drop}
-use Rattle.std.proofs.lemmas.Bool.{cases_lt, cond-true, cond-false, lt-ltb, le-ltb, eqb-true, eq-eqb, and_parts, and_from, not-false, not_from_true, or_from}
+use Rattle.std.proofs.Common.{◌≡◌, ℕ, zero, suc, ◌+◌, ◌*◌, ◌<◌, ◌≤◌, true, ◌&&◌, ◌||◌, eqb, ltb, List, [], ◌∷◌, ◌++◌, length, get_or, take, drop, IfErr, None, Ok, Err, Result, sym, refl, ap, ◌∙◌, ⊎_elim, arith, take-add}
+use Rattle.std.proofs.lemmas.List.{length-append, length-take-le, length-drop, take_at, drop_at, drop-drop, take_all, drop_more, get_or-take, get_or-drop}
+use Rattle.std.proofs.lemmas.Bool.{cases_lt, le-ltb, eqb-true, eq-eqb, and_parts, and_from, not-false, not_from_true, or_from}
 use Rattle.fault.specs.declared.Fault.{Fault}
 use Rattle.basis.specs.declared.kind.Kind.{Kind}
 use Rattle.fault.specs.Faults.{Outcome}
-use Rattle.basis.specs.Figures.{Figures, Lawful, listed, count, limit, rank}
+use Rattle.basis.specs.Figures.{Figures, Lawful, count, rank}
 use Rattle.table.specs.Book.{be16, be32, bytes16, bytes32, kind_at, entry_place, entry_bytes, body_place, book_length, in_order, contents_bytes, body_bytes, bodies_bytes, encoded, decoded, decoded_by, entry_right, entry_fault, opening_fault, contents_fault, length_fault, book_fault, figures_fault, buffer_fault, rewrite_fault, written}
 use Rattle.table.proofs.Books.{body_within}
 use Rattle.table.proofs.Digits.{digits16, digits32, whole16, whole32}
 use Rattle.fault.proofs.Firsts.{first_of_none, first_passes, first_passed, refuse_none, none_refuse, passed_on}
-use Rattle.table.proofs.Lawfulness.{each_kind, lawful_passes, opening_passed}
+use Rattle.table.proofs.Lawfulness.{each_kind, lawful_passes}
 use Rattle.basis.specs.Layered.{million}
 use Rattle.basis.specs.Listed.{listed_inside, listed_is, count_most}
-use Rattle.table.proofs.Placed.{seven, next_body, entry_place_is, entry_within, length_body, length_order, length_contents, length_bodies, length_encoded}
+use Rattle.table.proofs.Placed.{next_body, entry_place_is, entry_within, length_body, length_contents, length_bodies, length_encoded}
 
 -- n bytes of a book, from a place on
 abbrev piece : ℕ → ℕ → List ℕ → List ℕ

@@ -1,5 +1,5 @@
 -- The one sum run backward from the last year, and that it is the plain sum, with sums inside sums. Assumes nothing.
-use Rattle.std.proofs.Common.{◌≡◌, ℕ, zero, suc, ◌+◌, ◌-◌, ◌*◌, Bool, true, false, ltb, List, get_or, sym, refl, ap, ◌∙◌, mul_assoc, arith}
+use Rattle.std.proofs.Common.{◌≡◌, ℕ, zero, suc, ◌+◌, ◌-◌, ◌*◌, true, false, ltb, List, get_or, sym, refl, ap, ◌∙◌, mul_assoc, arith}
 use Rattle.basis.specs.declared.kind.Kind.{Kind}
 use Rattle.basis.specs.declared.kind.Kind.TheVariants.{Invalidity, ActiveDeath, InvalidDeath, PopulationDeath, WidowDeath, Married, SpouseAge}
 use Rattle.basis.specs.Figures.{Figures}
@@ -8,7 +8,7 @@ use Rattle.valuation.specs.declared.benefit.Benefit.TheVariants.{Retired, Popula
 use Rattle.valuation.specs.Benefits.{span}
 use Rattle.valuation.specs.Exact.{half, paid, chance, lives, survives, until, level, annuity, wid, left, widowed, retiring, retiring_widow, turning_invalid, turning_invalid_widow, retirement, invalidity, active_death, retired_death, invalid_death, share, value, exact_value}
 use Rattle.valuation.specs.Terms.{discount}
-use Rattle.valuation.specs.Fraction.{Fraction, ratio, whole, nought, one, ◌⊕◌, ◌⊖◌, ◌⊗◌, ◌≈◌}
+use Rattle.valuation.specs.Fraction.{Fraction, whole, nought, one, ◌⊕◌, ◌⊖◌, ◌⊗◌, ◌≈◌}
 use Rattle.valuation.specs.Sum.{Path, power, survival, total, present_value}
 use Rattle.valuation.proofs.Fractions.{same_add, same_mul}
 

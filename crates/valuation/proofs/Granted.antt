@@ -1,9 +1,9 @@
 -- What is known of a promise that passes the checks. Assumes nothing.
-use Rattle.std.proofs.Common.{◌≡◌, ℕ, ◌+◌, ◌<◌, ◌≤◌, not, ◌||◌, eqb, ltb, List, length, get_or, None, ⊎_elim, arith}
+use Rattle.std.proofs.Common.{◌≡◌, ℕ, ◌≤◌, not, ◌||◌, eqb, ltb, List, length, get_or, None, ⊎_elim, arith}
 use Rattle.std.proofs.lemmas.List.{get_or_past}
 use Rattle.std.proofs.lemmas.Bool.{cases_lt, ltb-false, eqb-true, not-false, or_parts}
-use Rattle.fault.specs.declared.Refusal.TheVariants.{Age, Span, Amount, Column}
-use Rattle.fault.specs.Faults.{fault, refuse_if, first_of}
+use Rattle.fault.specs.declared.Refusal.TheVariants.{Age, Span, Column}
+use Rattle.fault.specs.Faults.{fault, refuse_if}
 use Rattle.fault.proofs.Firsts.{first_of_none, first_passes, refuse_none}
 use Rattle.valuation.specs.declared.benefit.Benefit.{Benefit}
 use Rattle.valuation.specs.Benefits.{first_age, last_age, span}

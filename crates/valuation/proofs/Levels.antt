@@ -1,8 +1,8 @@
 -- The values of amount 1 a year: what their numbers stand for, and how large they grow. Assumes nothing.
-use Rattle.std.proofs.Common.{◌≡◌, ℕ, zero, suc, ◌+◌, ◌-◌, ◌*◌, ◌/◌, ◌<◌, ◌≤◌, true, false, sym, refl, ap, ◌∙◌, subst, mul-le-mul_right, mul-le-mul, mul-le-mul_left, one-mul, mul-one, div-mul-le_self, le_of_mul-le-mul_right, arith}
+use Rattle.std.proofs.Common.{◌≡◌, ℕ, zero, suc, ◌+◌, ◌*◌, ◌≤◌, sym, subst, mul-le-mul_right, mul-le-mul_left, one-mul, div-mul-le_self, le_of_mul-le-mul_right, arith}
 use native.Mathlib.Nat.{mul-div_cancel_left}
-use Rattle.valuation.specs.Fraction.{Fraction, Proper, ratio, whole, nought, one, ◌⊕◌, ◌⊖◌, ◌⊗◌}
-use Rattle.valuation.specs.Fixed.{scale, fixed, product, Stands}
+use Rattle.valuation.specs.Fraction.{Fraction, Proper, whole, ◌⊗◌}
+use Rattle.valuation.specs.Fixed.{scale, product, Stands}
 use Rattle.valuation.specs.Pair.{running}
 use Rattle.valuation.proofs.Enclosures.{stands_sum, stands_product, stands_wider}
 use Rattle.valuation.proofs.Backward.{remaining}

@@ -1,10 +1,10 @@
 -- The stated pair encloses the exact value. Assumes nothing.
-use Rattle.std.proofs.Common.{◌≡◌, ℕ, zero, suc, ◌+◌, ◌-◌, ◌*◌, ◌/◌, ◌<◌, ◌≤◌, Bool, true, false, ◌||◌, eqb, ltb, List, length, get_or, sym, refl, ap, ◌∙◌, subst, ⊎_elim, mul-le-mul_right, div-mul-le_self, arith}
-use native.Mathlib.Nat.{lt-div-mul-add, div-le_of_le-mul}
+use Rattle.std.proofs.Common.{◌≡◌, ℕ, zero, suc, ◌+◌, ◌*◌, ◌/◌, ◌<◌, ◌≤◌, Bool, true, false, ltb, List, length, get_or, sym, refl, ap, ◌∙◌, subst, mul-le-mul_right, arith}
+use native.Mathlib.Nat.{div-le_of_le-mul}
 use Rattle.std.proofs.lemmas.Bool.{le-ltb, lt-ltb}
 use Rattle.std.proofs.lemmas.Bool.Decides.{nat_tests}
 use Rattle.basis.specs.declared.kind.Kind.{Kind}
-use Rattle.basis.specs.declared.kind.Kind.TheVariants.{Invalidity, ActiveDeath, InvalidDeath, PopulationDeath, WidowDeath}
+use Rattle.basis.specs.declared.kind.Kind.TheVariants.{ActiveDeath, InvalidDeath, PopulationDeath, WidowDeath}
 use Rattle.basis.specs.Figures.{Figures, Lawful}
 use Rattle.valuation.specs.declared.benefit.Benefit.{Benefit}
 use Rattle.valuation.specs.declared.benefit.Benefit.TheVariants.{Retired, Population, Invalid, Widow, RetiredWidow, PopulationWidow, InvalidWidow, Active, ActiveRetirement, ActiveInvalidity, ActiveInvalidityRetirement, ActiveDeathWidow, ActiveRetiredWidow, ActiveOrRetiredWidow, ActiveInvalidWidow, ActiveWidow}
@@ -12,7 +12,7 @@ use Rattle.valuation.specs.declared.pair.Pair.{Pair}
 use Rattle.valuation.specs.Fraction.{Fraction, Proper, nought, whole, ◌⊕◌, ◌⊗◌, ◌≼◌}
 use Rattle.valuation.specs.Terms.{discount, listed}
 use Rattle.valuation.specs.Benefits.{span}
-use Rattle.valuation.specs.Exact.{exact_cents, paid, lives, stays, survives, share, value, exact_value, level, pension, widowed, retiring, retiring_widow, turning_invalid, turning_invalid_widow}
+use Rattle.valuation.specs.Exact.{exact_cents, paid, lives, stays, survives, share, exact_value, pension, widowed, retiring, retiring_widow, turning_invalid, turning_invalid_widow}
 use Rattle.valuation.specs.Fixed.{scale, product, Stands}
 use Rattle.valuation.specs.Rates.{kept_number, loss_number, paid_number}
 use Rattle.valuation.specs.Pair.{running, slack, weight, stays_on, goes_on, share_number, survival_number, level_number, pension_number, widowed_number, turning_invalid_number, turning_invalid_widow_number, low_units, high_units, lower_cents, upper_cents, lower, upper}

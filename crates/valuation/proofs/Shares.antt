@@ -1,11 +1,11 @@
 -- What the numbers of the model stand for, up to the yearly shares. Assumes nothing.
-use Rattle.std.proofs.Common.{◌≡◌, ℕ, zero, suc, ◌+◌, ◌-◌, ◌*◌, ◌/◌, ◌<◌, ◌≤◌, sym, refl, ap, ◌∙◌, subst, mul-le-mul_right, mul_assoc, mul-le-mul, mul-pos, arith}
+use Rattle.std.proofs.Common.{◌≡◌, ℕ, ◌+◌, ◌-◌, ◌*◌, ◌<◌, ◌≤◌, sym, ap, ◌∙◌, mul-le-mul_right, mul_assoc, mul-le-mul, mul-pos, arith}
 use Rattle.basis.specs.declared.kind.Kind.{Kind}
-use Rattle.basis.specs.declared.kind.Kind.TheVariants.{Invalidity, ActiveDeath, InvalidDeath, PopulationDeath, WidowDeath, Married, SpouseAge}
+use Rattle.basis.specs.declared.kind.Kind.TheVariants.{Invalidity, ActiveDeath, InvalidDeath, WidowDeath, Married, SpouseAge}
 use Rattle.basis.specs.Figures.{Figures, Lawful}
 use Rattle.basis.specs.Layered.{million}
-use Rattle.valuation.specs.Fraction.{Fraction, Proper, ratio, whole, nought, one, ◌⊕◌, ◌⊖◌, ◌⊗◌, ◌≈◌}
-use Rattle.valuation.specs.Terms.{discount, loss}
+use Rattle.valuation.specs.Fraction.{Fraction, Proper, one, ◌⊕◌, ◌⊖◌, ◌⊗◌, ◌≈◌}
+use Rattle.valuation.specs.Terms.{discount}
 use Rattle.valuation.specs.Exact.{half, paid, chance, lives, stays, level, annuity, wid, left, pension, widowed, turning_invalid, turning_invalid_widow}
 use Rattle.valuation.specs.Fixed.{scale, fixed, product, Stands}
 use Rattle.valuation.specs.Rates.{discount_number, loss_number, kept_number, chance_number, lives_number, paid_number}
@@ -16,7 +16,7 @@ use Rattle.valuation.specs.Columns.{level_of, level_share}
 use Rattle.valuation.proofs.Fractions.{proper_add, proper_mul}
 use Rattle.valuation.proofs.Enclosures.{stands_fixed, stands_sum, stands_same, stands_wider, stands_product}
 use Rattle.valuation.proofs.Rating.{stands_paid, stands_discounted, loss_proper}
-use Rattle.valuation.proofs.Backward.{remaining, backward}
+use Rattle.valuation.proofs.Backward.{backward}
 use Rattle.valuation.proofs.Running.{proper_remaining}
 use Rattle.valuation.proofs.Levels.{shrinks, shares_year, stands_small, stands_running, running_ones, running_exits}
 use Rattle.valuation.proofs.Years.{stands_opposite, stands_opposites, half_stands, half_proper, half_small, sooner_stands, half_sooner, chance_lives}

@@ -4,7 +4,7 @@ use Rattle.std.specs.List.{AllByRecursion as All}
 use Rattle.std.proofs.lemmas.Bool.{and_parts, ltb-true, eqb-true}
 use Rattle.valuation.specs.Fraction.{Fraction}
 use Rattle.valuation.specs.Sum.{total}
-use Rattle.valuation.specs.Exact.{value, level, wid, retiring, retiring_widow, turning_invalid, turning_invalid_widow, exact_value}
+use Rattle.valuation.specs.Exact.{value, level, wid, retiring, retiring_widow, turning_invalid, turning_invalid_widow}
 use Rattle.valuation.specs.Known.{Row, Holds, rows}
 use Rattle.valuation.proofs.Backward.{backward, remaining, same_value}
 use Rattle.valuation.proofs.Fractions.{same_trans}

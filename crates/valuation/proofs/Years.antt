@@ -1,12 +1,12 @@
 -- One year's numbers: chances, survivals and the half-year factor, and what they stand for. Assumes nothing.
-use Rattle.std.proofs.Common.{◌≡◌, ℕ, zero, suc, ◌+◌, ◌-◌, ◌*◌, ◌/◌, ◌<◌, ◌≤◌, Bool, true, false, eqb, sym, refl, ap, ◌∙◌, subst, ⊎_elim, mul-le-mul_right, mul-le-mul, mul-le-mul_left, mul-pos, one-mul, mul-one, div-mul-le_self, le_of_mul-le-mul_right, arith}
-use Rattle.std.proofs.lemmas.Bool.{cases_Bool, eqb-true}
-use Rattle.valuation.specs.Fraction.{Fraction, Proper, ratio, whole, nought, one, ◌⊕◌, ◌⊖◌, ◌⊗◌, ◌⊘◌, ◌≈◌}
+use Rattle.std.proofs.Common.{◌≡◌, ℕ, ◌+◌, ◌-◌, ◌*◌, ◌<◌, ◌≤◌, Bool, true, false, eqb, sym, refl, subst, mul-le-mul_right, one-mul, mul-one, div-mul-le_self, le_of_mul-le-mul_right, arith}
+use Rattle.std.proofs.lemmas.Bool.{eqb-true}
+use Rattle.valuation.specs.Fraction.{Fraction, Proper, ratio, nought, one, ◌⊖◌, ◌⊗◌, ◌⊘◌, ◌≈◌}
 use Rattle.valuation.specs.Exact.{half}
 use Rattle.valuation.specs.Fixed.{scale, fixed, product, Stands}
 use Rattle.valuation.specs.Pair.{half_number, sooner_number}
-use Rattle.valuation.proofs.Enclosures.{stands_fixed, stands_same, stands_sum, stands_product, stands_wider}
-use Rattle.valuation.proofs.Levels.{shrinks, stands_small}
+use Rattle.valuation.proofs.Enclosures.{stands_fixed, stands_same}
+use Rattle.valuation.proofs.Levels.{shrinks}
 
 abbrev part : ℕ → Fraction
 part q = ratio q 1000000

@@ -1,5 +1,5 @@
 -- The path of an active as it is run along: what it reads, its share below the final age and its value at it. Assumes nothing.
-use Rattle.std.specs.Prelude.{◌≡◌, ℕ, ◌+◌, true, false, List, nat_lt}
+use Rattle.std.specs.Prelude.{ℕ, ◌+◌, true, false, List, nat_lt}
 use Rattle.basis.specs.declared.kind.Kind.TheVariants.{ActiveDeath, InvalidDeath, PopulationDeath}
 use Rattle.basis.specs.Figures.{Figures}
 use Rattle.valuation.specs.declared.benefit.Benefit.{Benefit}

@@ -1,5 +1,5 @@
 -- What the stated pair does. Assumes nothing.
-use Rattle.std.specs.Prelude.{◌≡◌, ℕ, ◌+◌, ◌<◌, ◌≤◌, true, List, slice_index}
+use Rattle.std.specs.Prelude.{◌≡◌, ℕ, ◌+◌, ◌≤◌, true, List, slice_index}
 use Rattle.basis.specs.Figures.{Figures, Lawful}
 use Rattle.valuation.specs.declared.benefit.Benefit.{Benefit}
 use Rattle.valuation.specs.Fraction.{whole, ◌≼◌}

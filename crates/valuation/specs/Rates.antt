@@ -1,5 +1,5 @@
 -- The numbers that stand for what a valuation takes from its terms and from one figure. Assumes nothing.
-use Rattle.std.specs.Prelude.{ℕ, zero, suc, ◌+◌, ◌-◌, ◌*◌, cond, eqb}
+use Rattle.std.specs.Prelude.{ℕ, zero, suc, ◌+◌, ◌-◌, ◌*◌}
 use Rattle.valuation.specs.Fixed.{fixed, product}
 
 -- g(k) + g(k + 1) + .., n terms

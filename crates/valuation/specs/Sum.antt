@@ -1,5 +1,5 @@
 -- The one sum: the present value of amounts along any path. Assumes nothing.
-use Rattle.std.specs.Prelude.{ℕ, zero, suc, ◌+◌}
+use Rattle.std.specs.Prelude.{ℕ, zero, suc}
 use Rattle.valuation.specs.Fraction.{Fraction, one, nought, whole, ◌⊕◌, ◌⊗◌}
 
 -- A path is survivors from year to year and a year's figure. Years count from 0, the year of the valuation.

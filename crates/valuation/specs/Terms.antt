@@ -1,9 +1,9 @@
 -- Terms: interest in hundredths of a percent and instalments a year. Assumes nothing.
-use Rattle.std.specs.Prelude.{ℕ, zero, suc, ◌+◌, ◌*◌, Bool, not, ◌||◌, Option, ◌==◌, nat_lt}
+use Rattle.std.specs.Prelude.{ℕ, ◌+◌, Bool, not, ◌||◌, Option, ◌==◌, nat_lt}
 use Rattle.fault.specs.declared.Fault.{Fault}
 use Rattle.fault.specs.declared.Refusal.TheVariants.{Interest, Instalments}
 use Rattle.fault.specs.Faults.{fault, refuse_if, first_of}
-use Rattle.valuation.specs.Fraction.{Fraction, ratio, one, whole, nought, ◌⊕◌, ◌⊗◌, ◌⊘◌}
+use Rattle.valuation.specs.Fraction.{Fraction, ratio, one, whole, ◌⊕◌, ◌⊗◌, ◌⊘◌}
 use Rattle.valuation.specs.Sum.{total}
 
 -- a year is paid in 1, 2, 3, 4, 6 or 12 instalments

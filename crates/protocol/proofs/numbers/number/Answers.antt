@@ -1,5 +1,5 @@
 use Rattle.std.proofs.Common.{sym, arith}
-use Rattle.protocol.proofs.Digits.{read_none, read_more, no_number, empty_number, great_number, some_number}
+use Rattle.protocol.proofs.Digits.{read_none, read_more, no_number, great_number, some_number}
 use Rattle.protocol.proofs.numbers.number.Goals as goal
 
 pub loop-byte-init : goal.loop-byte-init

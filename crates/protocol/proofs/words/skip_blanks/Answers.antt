@@ -1,4 +1,4 @@
-use Rattle.std.proofs.Common.{sym, ◌∙◌}
+use Rattle.std.proofs.Common.{sym}
 use Rattle.protocol.proofs.Lines.{words_more}
 use Rattle.protocol.proofs.words.skip_blanks.Goals as goal
 

@@ -1,5 +1,5 @@
-use Rattle.std.proofs.Common.{◌≡◌, ℕ, ◌+◌, ◌*◌, List, refl, ap, ◌∙◌, arith}
-use Rattle.table.specs.Book.{placed, in_order, bytes32}
+use Rattle.std.proofs.Common.{ℕ, ◌+◌, ◌*◌, List, refl, ap, ◌∙◌, arith}
+use Rattle.table.specs.Book.{placed, bytes32}
 use Rattle.table.specs.Table.{tabled}
 use Rattle.table.proofs.Placed.{placed_order_none, placed_order_more, length_order}
 use Rattle.table.proofs.Books.{body_within}

@@ -1,4 +1,4 @@
-use Rattle.std.proofs.Common.{◌≡◌, ◌+◌, get_or, refl, ap, ◌∙◌, arith}
+use Rattle.std.proofs.Common.{◌+◌, get_or, refl, ap, ◌∙◌, arith}
 use Rattle.basis.specs.declared.kind.Kind.TheVariants.{Invalidity, InvalidDeath}
 use Rattle.valuation.specs.declared.level.Level.TheVariants.{Widows}
 use Rattle.valuation.specs.Fixed.{product}

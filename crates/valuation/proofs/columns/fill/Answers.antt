@@ -1,5 +1,5 @@
-use Rattle.std.proofs.Common.{◌≡◌, ◌+◌, ◌-◌, arith}
-use Rattle.valuation.specs.Columns.{level_of, level_share}
+use Rattle.std.proofs.Common.{◌-◌, arith}
+use Rattle.valuation.specs.Columns.{level_share}
 use Rattle.valuation.proofs.Descents.{level_end, down_none, down_more, next_value, reads_kept}
 use Rattle.valuation.proofs.Shares.{levels_bound}
 use Rattle.valuation.proofs.columns.fill.Goals as goal

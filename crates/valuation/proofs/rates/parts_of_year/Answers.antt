@@ -1,6 +1,6 @@
-use Rattle.std.proofs.Common.{ℕ, ◌+◌, ◌-◌, ◌*◌, ◌<◌, ◌≤◌, arith}
-use Rattle.valuation.specs.Fixed.{scale, fixed}
-use Rattle.valuation.specs.Rates.{added, part_den}
+use Rattle.std.proofs.Common.{◌+◌, ◌-◌, ◌*◌, arith}
+use Rattle.valuation.specs.Fixed.{fixed}
+use Rattle.valuation.specs.Rates.{part_den}
 use Rattle.valuation.proofs.Added.{whole_some, loss_small, kept_small, fixed_small, added_step, added_end, added_fits}
 use Rattle.valuation.proofs.rates.parts_of_year.Goals as goal
 

@@ -1,4 +1,4 @@
-use Rattle.std.proofs.Common.{◌≡◌, ℕ, ◌+◌, ◌-◌, ◌*◌}
+use Rattle.std.proofs.Common.{◌≡◌, ◌+◌, ◌-◌, ◌*◌}
 use Rattle.valuation.specs.Fixed.{fixed}
 use Rattle.valuation.specs.Rates.{added, part_den}
 use Rattle.valuation.proofs.rates.parts_of_year.Given as goal

@@ -1,4 +1,4 @@
-use Rattle.std.proofs.Common.{◌≡◌, ℕ, ◌+◌, ◌≤◌, length, get_or, refl, ◌∙◌, arith}
+use Rattle.std.proofs.Common.{refl, arith}
 use Rattle.valuation.proofs.Granted.{granted}
 use Rattle.valuation.proofs.Pairing.{span_few, sum_small, valued_sum}
 use Rattle.valuation.proofs.value.value.Goals as goal

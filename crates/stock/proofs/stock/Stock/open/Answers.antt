@@ -1,7 +1,6 @@
 use Rattle.std.proofs.Common.{sym, refl, subst}
 use Rattle.stock.specs.Told.{Shows}
 use Rattle.stock.proofs.Showing.{shows_nothing}
-use Rattle.stock.proofs.Heeding.{had_granted}
 use Rattle.stock.proofs.stock.Stock.open.Goals as goal
 
 pub returns : goal.returns

@@ -1,6 +1,6 @@
 use Rattle.std.proofs.Common.{sym, refl, ◌∙◌, subst}
 use Rattle.std.proofs.lemmas.Result.{err_from_is_err_and}
-use Rattle.stock.specs.Register.{Release, struck}
+use Rattle.stock.specs.Register.{Release}
 use Rattle.stock.specs.Told.{Shows}
 use Rattle.stock.proofs.Showing.{shows_release}
 use Rattle.stock.proofs.Heeding.{missing_is, had_refused, had_granted}

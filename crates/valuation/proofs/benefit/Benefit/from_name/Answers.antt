@@ -1,6 +1,5 @@
-use Rattle.std.proofs.Common.{◌≡◌, ◌∙◌, arith, below_more}
+use Rattle.std.proofs.Common.{◌≡◌, arith}
 use Rattle.valuation.specs.Benefits.{name}
-use Rattle.std.proofs.lemmas.Bool.{false≢true}
 use Rattle.valuation.proofs.Named.{each_benefit}
 use Rattle.valuation.proofs.benefit.Benefit.from_name.Goals as goal
 

@@ -2,7 +2,6 @@ use Rattle.std.proofs.Common.{ap, arith, rules}
 use Rattle.basis.specs.Layered.{million}
 use Rattle.valuation.specs.Fixed.{product}
 use Rattle.valuation.specs.Rates.{discount_number}
-use Rattle.valuation.specs.Pair.{sooner_number}
 use Rattle.valuation.proofs.Levels.{shrinks}
 use Rattle.valuation.proofs.Shares.{discount_below}
 use Rattle.valuation.proofs.Years.{half_sooner}
