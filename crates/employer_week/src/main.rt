@@ -8,6 +8,7 @@ use basis::kind::Kind;
 use basis::loading::{Loaded, Loading};
 use basis::shift::{Shift, Shifted};
 use fault::Fault;
+use std::process::ExitCode;
 use std::str::SplitWhitespace;
 use std::{env, fs, io};
 use stock::call::{Answer, Call};
@@ -348,12 +349,12 @@ fn run(rt: &HostRuntime) -> anyhow::Result<()> {
     answer_promises(rt, &pile)
 }
 
-fn main(rt: HostRuntime) -> anyhow::Result<()> {
+fn main(rt: HostRuntime) -> io::Result<ExitCode> {
     match run(&rt) {
-        Ok(()) => Ok(()),
+        Ok(()) => Ok(ExitCode::SUCCESS),
         Err(error) => {
             eprintln!(rt; "dotselm: {error}")?;
-            Err(error)
+            Ok(ExitCode::FAILURE)
         }
     }
 }

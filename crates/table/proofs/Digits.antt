@@ -1,6 +1,6 @@
 -- Numbers of two and four bytes, taken apart and put together. Assumes nothing.
 use Rattle.std.proofs.Common.{◌≡◌, ℕ, ◌+◌, ◌*◌, ◌/◌, ◌%◌, ◌<◌, List, [], ◌∷◌, sym, ap, ◌∙◌, mod-eq_of_lt, arith}
-use native.Mathlib.Nat.{div-div-eq-div-mul, div-add-mod}
+use Rattle.std.proofs.Math.Nat.{div-div-eq-div-mul, div-add-mod}
 use Rattle.table.specs.Book.{bytes16, bytes32}
 
 same_two : {a b c d : ℕ} → a ≡ c → b ≡ d → ◌≡◌ {A = List ℕ} (a ∷ b ∷ []) (c ∷ d ∷ [])

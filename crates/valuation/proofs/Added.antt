@@ -1,6 +1,6 @@
 -- A loop that adds up a sum's terms from the first on. Assumes nothing.
 use Rattle.std.proofs.Common.{◌≡◌, ℕ, zero, suc, ◌+◌, ◌-◌, ◌*◌, ◌<◌, ◌≤◌, refl, ap, ◌∙◌, mul-le-mul_right, mul-le-mul, mul-pos, arith}
-use native.Mathlib.Nat.{div-le_of_le-mul}
+use Rattle.std.proofs.Math.Nat.{div-le_of_le-mul}
 use Rattle.valuation.specs.Fixed.{scale, fixed, product}
 use Rattle.valuation.specs.Rates.{added}
 

@@ -1,6 +1,6 @@
 -- From the sum's units to cents. Assumes nothing.
 use Rattle.std.proofs.Common.{ℕ, ◌+◌, ◌-◌, ◌*◌, ◌≤◌, ap, mul-le-mul_right, div-mul-le_self, le_of_mul-le-mul_right, arith}
-use native.Mathlib.Nat.{lt-div-mul-add}
+use Rattle.std.proofs.Math.Nat.{lt-div-mul-add}
 use Rattle.valuation.specs.Fraction.{Fraction, Proper, whole, ◌⊗◌, ◌≈◌, ◌≼◌}
 use Rattle.valuation.specs.Pair.{unit, lower_cents, upper_cents}
 

@@ -1,6 +1,6 @@
 -- What a fixed-point number that is computed from others stands for. Assumes nothing.
 use Rattle.std.proofs.Common.{ℕ, ◌+◌, ◌*◌, ◌<◌, ◌≤◌, ap, mul-le-mul_right, mul-le-mul, mul-le-mul_left, div-mul-le_self, le_of_mul-le-mul_right, arith}
-use native.Mathlib.Nat.{lt-div-mul-add}
+use Rattle.std.proofs.Math.Nat.{lt-div-mul-add}
 use Rattle.valuation.specs.Fraction.{Fraction, Proper, ratio, ◌⊕◌, ◌⊗◌, ◌≈◌}
 use Rattle.valuation.specs.Fixed.{scale, fixed, product, Stands}
 

@@ -1,6 +1,6 @@
 -- The laws of fractions. Assumes nothing.
 use Rattle.std.proofs.Common.{◌*◌, sym, refl, ap, mul-le-mul_right, mul-le-mul, mul-pos, le_of_mul-le-mul_right, arith}
-use native.Mathlib.Nat.{eq_of_mul-eq-mul_right}
+use Rattle.std.proofs.Math.Nat.{eq_of_mul-eq-mul_right}
 use Rattle.valuation.specs.Fraction.{Fraction, Proper, ◌⊕◌, ◌⊗◌, ◌≈◌, ◌≼◌}
 
 pub same_refl : (x : Fraction) → x ≈ x

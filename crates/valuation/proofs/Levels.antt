@@ -1,6 +1,6 @@
 -- The values of amount 1 a year: what their numbers stand for, and how large they grow. Assumes nothing.
 use Rattle.std.proofs.Common.{◌≡◌, ℕ, zero, suc, ◌+◌, ◌*◌, ◌≤◌, sym, subst, mul-le-mul_right, mul-le-mul_left, one-mul, div-mul-le_self, le_of_mul-le-mul_right, arith}
-use native.Mathlib.Nat.{mul-div_cancel_left}
+use Rattle.std.proofs.Math.Nat.{mul-div_cancel_left}
 use Rattle.valuation.specs.Fraction.{Fraction, Proper, whole, ◌⊗◌}
 use Rattle.valuation.specs.Fixed.{scale, product, Stands}
 use Rattle.valuation.specs.Pair.{running}

@@ -1,6 +1,6 @@
 -- What the numbers of the terms and of one figure stand for. Assumes nothing.
 use Rattle.std.proofs.Common.{◌≡◌, ℕ, zero, suc, ◌+◌, ◌-◌, ◌*◌, ◌<◌, ◌≤◌, refl, ap, mul-le-mul, mul-le-mul_left, mul-pos, one-mul, mul-one, le_of_mul-le-mul_right, arith}
-use native.Mathlib.Nat.{eq_of_mul-eq-mul_left}
+use Rattle.std.proofs.Math.Nat.{eq_of_mul-eq-mul_left}
 use Rattle.valuation.specs.Fraction.{Fraction, Proper, ratio, whole, one, ◌⊕◌, ◌⊖◌, ◌⊗◌, ◌⊘◌, ◌≈◌}
 use Rattle.valuation.specs.Sum.{total}
 use Rattle.valuation.specs.Terms.{discount, loss, yearly}

@@ -1,6 +1,6 @@
 -- The backward sum in fixed-point numbers encloses the backward sum in fractions. Assumes nothing.
 use Rattle.std.proofs.Common.{◌≡◌, ℕ, zero, suc, ◌+◌, ◌*◌, ◌≤◌, sym, ap, mul-le-mul_right, mul-le-mul, mul-le-mul_left, one-mul, div-mul-le_self, le_of_mul-le-mul_right, arith}
-use native.Mathlib.Nat.{lt-div-mul-add}
+use Rattle.std.proofs.Math.Nat.{lt-div-mul-add}
 use Rattle.valuation.specs.Fraction.{Fraction, Proper, whole, ◌⊗◌}
 use Rattle.valuation.specs.Fixed.{scale, product, Stands}
 use Rattle.valuation.specs.Pair.{running, slack}

@@ -1,6 +1,6 @@
 -- The loop of the one sum: what it has after some years, one year more, and at its end. Assumes nothing.
 use Rattle.std.proofs.Common.{◌≡◌, ℕ, suc, ◌+◌, ◌-◌, ◌*◌, ◌/◌, ◌<◌, ◌≤◌, List, length, get_or, sym, refl, ap, ◌∙◌, add_assoc, mul-le-mul_left, arith}
-use native.Mathlib.Nat.{div-le_of_le-mul}
+use Rattle.std.proofs.Math.Nat.{div-le_of_le-mul}
 use Rattle.valuation.specs.Fixed.{scale, product}
 use Rattle.valuation.specs.Pair.{running, slack, weight}
 use Rattle.valuation.proofs.Levels.{shrinks}

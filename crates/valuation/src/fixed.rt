@@ -5,11 +5,16 @@ ghost use Rattle.valuation.specs.Fixed.{scale, fixed, product};
 // The number that stands for 1.
 pub(crate) const SCALE: u64 = 1 << 56;
 
-// n/d, which is at most 255.
+// n/d, which is at most 255. Where both are below two million, as all of a valuation's are, two divisions of 64 bits are
+// quicker than one of 128: the first leaves a rest, and the second divides it.
 pub(crate) fn fixed(n: u64, d: u64) -> u64
     requires { (0 < d) × (n ≤ 255 * d) }
     ensures { result ≡ fixed n d }
 {
+    if n <= d && d <= 2_000_000 {
+        let shifted = n * 8_796_093_022_208;
+        return (shifted / d) * 8192 + (shifted % d) * 8192 / d;
+    }
     (n as u128 * SCALE as u128 / d as u128) as u64
 }
 

@@ -273,7 +273,6 @@ pub fn value<B: Basis>(
     column: &mut [u64],
 ) -> Result<Pair, Fault>
     ensures answer { Outcome result (valuation_fault (B.figures basis.now).final_age benefit age amounts.now (length column.old)) (Valued (B.figures basis.now) terms.interest terms.instalments benefit age amounts.now) }
-    ensures kept { (basis.now ≡ basis.now) × (amounts.now ≡ amounts.now) }
     ensures len { length column.new ≡ length column.old }
 {
     check_promise(basis, benefit, age, amounts, column)?;

@@ -1,5 +1,5 @@
 use Rattle.std.proofs.Common.{◌*◌, ◌/◌, ◌≤◌, mul-le-mul_right, arith}
-use native.Mathlib.Nat.{div-le_of_le-mul}
+use Rattle.std.proofs.Math.Nat.{div-le_of_le-mul}
 use Rattle.valuation.proofs.fixed.product.Goals as goal
 
 pub overflow_cast-result-4 : goal.overflow_cast-result-4

@@ -1,4 +1,4 @@
-use Rattle.std.proofs.Common.{refl, arith}
+use Rattle.std.proofs.Common.{arith}
 use Rattle.valuation.proofs.Granted.{granted}
 use Rattle.valuation.proofs.Pairing.{span_few, sum_small, valued_sum}
 use Rattle.valuation.proofs.value.value.Goals as goal
@@ -26,4 +26,4 @@ returns g c =
     let passed = c.in_ok-check_promise.ensures.0 in
     let modest = (granted _ c.args.benefit c.args.age c.args.amounts.now _ c.in_ok-check_promise.ensures.0).modest in
     let valued = valued_sum (g.B.Basis.figures c.args.basis.now) (g.met.B.Basis.lawful c.args.basis.now) c.args.terms.interest c.args.terms.instalments c.args.terms.usual c.args.benefit c.args.age c.args.amounts.now modest _ _ _ _ c.of-rates.ensures.0 c.of-rates.ensures.1 c.sum_of-low.ensures.low c.sum_of-low.ensures.high in
-    record { answer = (passed, valued); kept = (refl, refl); len = c.sum_of-low.ensures.len }
+    record { answer = (passed, valued); len = c.sum_of-low.ensures.len }
