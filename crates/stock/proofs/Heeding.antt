@@ -1,6 +1,6 @@
 -- A stock's answers are those of its register. Assumes nothing.
 use Rattle.std.proofs.Common.{◌≡◌, ℕ, Bool, true, false, cond, not, ◌||◌, eqb, ltb, List, [], ◌∷◌, ◌++◌, length, is_some, Some, None, Ok, Err, sum_by, Option, Result, sym, refl, ap, ◌∙◌, subst}
-use Rattle.std.specs.List.{AllByRecursion as All}
+use Rattle.std.specs.List.{AllByRecursion}
 use Rattle.std.proofs.lemmas.Bool.{false≢true}
 use Rattle.std.proofs.lemmas.List.Sums.{fold_push}
 use Rattle.fault.specs.declared.Fault.{Fault}
@@ -66,7 +66,7 @@ module _ (f : Figures) (interest t : ℕ) where
       still (Some e) es ds same = refl
 
   -- the promise in force under a key is worth what was taken
-  worth_of : (es : List Entry) (key : ℕ) (p : Promise) → All (Worth f interest t) es → in_force es key ≡ Some p → Worthy f interest t p (pair_of f interest t p)
+  worth_of : (es : List Entry) (key : ℕ) (p : Promise) → AllByRecursion (Worth f interest t) es → in_force es key ≡ Some p → Worthy f interest t p (pair_of f interest t p)
   unfolding in_force
   worth_of [] key p worth there = absurd (false≢true (ap is_some there))
   worth_of (e ∷ es) key p worth there = step (worth_of es key p worth.1) (eqb e.key key) there

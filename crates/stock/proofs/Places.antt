@@ -1,6 +1,6 @@
 -- The places of a stock, as they are searched and changed. Assumes nothing.
 use Rattle.std.proofs.Common.{◌≡◌, ℕ, zero, suc, ◌+◌, ◌-◌, ◌*◌, ◌<◌, ◌≤◌, Bool, true, false, cond, eqb, List, [], ◌∷◌, length, get_or, take, drop, set, is_some, Some, None, sum_by, count_by, Option, sym, refl, ap, ◌∙◌, subst, arith}
-use Rattle.std.specs.List.{AllByRecursion as All}
+use Rattle.std.specs.List.{AllByRecursion}
 use Rattle.std.proofs.lemmas.Bool.{true≢false, false≢true, eqb-true}
 use Rattle.std.proofs.lemmas.List.{at_drop_more, at_drop_all, length-set, length-take, length-drop, take_all}
 use Rattle.std.proofs.lemmas.List.Sums.{sum_by-set, get_or-le-sum_by, count_by_more_yes, count_by-le-length, sum_by-take-drop, sum_by-drop_more}
@@ -60,7 +60,7 @@ pub one_each : (r : Option Record) → count_of r ≤ 1
 one_each None = omega arith
 one_each (Some r) = omega arith
 
-every : (P : Option Record → Type 0) → ((r : Option Record) → P r) → (rs : List (Option Record)) → All P rs
+every : (P : Option Record → Type 0) → ((r : Option Record) → P r) → (rs : List (Option Record)) → AllByRecursion P rs
 every P h [] = tt
 every P h (r ∷ rs) = (h r, every P h rs)
 

@@ -1,6 +1,6 @@
 -- The register under each call: what is found in it, and what a sum over it comes to. Assumes nothing.
 use Rattle.std.proofs.Common.{◌≡◌, ℕ, ◌+◌, Bool, true, false, cond, eqb, List, [], ◌∷◌, is_some, Some, None, sum_by, Option, sym, refl, ap, ◌∙◌, arith}
-use Rattle.std.specs.List.{AllByRecursion as All}
+use Rattle.std.specs.List.{AllByRecursion}
 use Rattle.std.proofs.lemmas.Bool.{false≢true, eqb-true}
 use Rattle.std.proofs.lemmas.List.Sums.{sum_by-cons}
 use Rattle.stock.specs.Register.{Promise, Entry, entry, in_force, exchanged, struck}
@@ -49,12 +49,12 @@ module _ (key : ℕ) (p : Promise) where
           let later = ap is_some (sym (past_it e es key past)) ∙ some in
           (found_exchanged es later e.key ∙ ap (λ t. cond t (Some p) (in_force es e.key)) (turned e.key key past) ∙ h.0, next later)
 
-  pub all_exchanged : (P : Entry → Type 0) (es : List Entry) → All P es → P (entry key p) → All P (exchanged key p es)
+  pub all_exchanged : (P : Entry → Type 0) (es : List Entry) → AllByRecursion P es → P (entry key p) → AllByRecursion P (exchanged key p es)
   unfolding exchanged
   all_exchanged P [] h new = tt
   all_exchanged P (e ∷ es) h new = step (all_exchanged P es h.1 new) (eqb e.key key)
     where
-      step : All P (exchanged key p es) → (t : Bool) → All P (cond t (entry key p ∷ es) (e ∷ exchanged key p es))
+      step : AllByRecursion P (exchanged key p es) → (t : Bool) → AllByRecursion P (cond t (entry key p ∷ es) (e ∷ exchanged key p es))
       step next true = (new, h.1)
       step next false = (h.0, next)
 
@@ -98,12 +98,12 @@ module _ (key : ℕ) where
       step next true here = h.1
       step next false past = (found_struck es h.1 e.key ∙ ap (λ t. cond t None (in_force es e.key)) (turned e.key key past) ∙ h.0, next)
 
-  pub all_struck : (P : Entry → Type 0) (es : List Entry) → All P es → All P (struck key es)
+  pub all_struck : (P : Entry → Type 0) (es : List Entry) → AllByRecursion P es → AllByRecursion P (struck key es)
   unfolding struck
   all_struck P [] h = tt
   all_struck P (e ∷ es) h = step (all_struck P es h.1) (eqb e.key key)
     where
-      step : All P (struck key es) → (t : Bool) → All P (cond t es (e ∷ struck key es))
+      step : AllByRecursion P (struck key es) → (t : Bool) → AllByRecursion P (cond t es (e ∷ struck key es))
       step next true = h.1
       step next false = (h.0, next)
 

@@ -1,6 +1,6 @@
 -- How the places of a stock show the register of the calls that it has had. Assumes nothing.
 use Rattle.std.specs.Prelude.{◌≡◌, ℕ, List, [], ◌∷◌, ◌++◌, length, Some, None, sum_by, count_by, Option, Result}
-use Rattle.std.specs.List.{AllByRecursion as All}
+use Rattle.std.specs.List.{AllByRecursion}
 use Rattle.fault.specs.declared.Fault.{Fault}
 use Rattle.fault.specs.Faults.{Outcome}
 use Rattle.basis.specs.Figures.{Figures}
@@ -39,7 +39,7 @@ module _ (f : Figures) (interest instalments : ℕ) where
     pub look : (k : ℕ) → found rs k ≡ pair_for (in_force es k)
     pub apart : Apart rs
     pub once : Once es
-    pub worth : All Worth es
+    pub worth : AllByRecursion Worth es
     pub lows : sum_by low_of rs ≡ (totals f interest instalments es).lower
     pub highs : sum_by high_of rs ≡ (totals f interest instalments es).upper
     pub counted : count_by taken rs ≡ length es

@@ -1,6 +1,6 @@
 -- The table of known figures, by one computed test. Assumes nothing.
 use Rattle.std.proofs.Common.{◌≡◌, ◌*◌, Bool, true, ◌&&◌, eqb, ltb, List, [], ◌∷◌, refl}
-use Rattle.std.specs.List.{AllByRecursion as All}
+use Rattle.std.specs.List.{AllByRecursion}
 use Rattle.std.proofs.lemmas.Bool.{and_parts, ltb-true, eqb-true}
 use Rattle.valuation.specs.Fraction.{Fraction}
 use Rattle.valuation.specs.Sum.{total}
@@ -27,7 +27,7 @@ holds r h =
     let parts = and_parts (ltb 0 x.den) (eqb (x.num * r.expected.den) (r.expected.num * x.den)) h in
     same_trans _ x r.expected (ltb-true 0 x.den parts.0) (same_value r.figures r.interest r.instalments r.benefit r.age r.amounts) (eqb-true _ _ parts.1)
 
-all_hold : (rs : List Row) → all_right rs ≡ true → All Holds rs
+all_hold : (rs : List Row) → all_right rs ≡ true → AllByRecursion Holds rs
 unfolding all_right
 all_hold [] h = tt
 all_hold (r ∷ rs) h =
@@ -38,5 +38,5 @@ tested : all_right rows ≡ true
 unfolding all_right right found backward remaining total level wid retiring retiring_widow turning_invalid turning_invalid_widow
 tested = refl
 
-pub table_holds : All Holds rows
+pub table_holds : AllByRecursion Holds rows
 table_holds = all_hold rows tested

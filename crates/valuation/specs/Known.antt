@@ -1,6 +1,6 @@
 -- Known figures: promises whose exact present values were worked out apart from these definitions. Assumes nothing.
 use Rattle.std.specs.Prelude.{◌≡◌, ℕ, cond, List, [], ◌∷◌, replicate, pos, Some, ◌==◌, nat_le}
-use Rattle.std.specs.List.{AllByRecursion as All}
+use Rattle.std.specs.List.{AllByRecursion}
 use Rattle.fault.specs.declared.Refusal.TheVariants.{Age}
 use Rattle.fault.specs.Faults.{fault}
 use Rattle.basis.specs.declared.kind.Kind.{Kind}
@@ -117,6 +117,6 @@ rows =
 
 -- every row holds; on the line a pensioner of 65 has 56 amounts, and one of 64 is refused for the age
 pub record Known : Type 0 where
-  pub table : All Holds rows
+  pub table : AllByRecursion Holds rows
   pub years : span 65 Retired 65 ≡ 56
   pub refused : (amounts : List ℕ) (column : ℕ) → valuation_fault 65 Retired 64 amounts column ≡ Some (fault Age 0 0)
