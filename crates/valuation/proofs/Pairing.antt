@@ -286,16 +286,53 @@ picked_two : (b : Bool) (a r : ℕ) → pick b a 0 + pick b 0 r ≡ pick b a r
 picked_two true a r = omega arith
 picked_two false a r = omega arith
 
--- none of the benefits of a life
+-- benefits of an active
 abbrev pub IsActive : Benefit → Type 0
-IsActive b = (b ≡ Retired → ⊥) × (b ≡ Population → ⊥) × (b ≡ Invalid → ⊥) × (b ≡ Widow → ⊥) × (b ≡ RetiredWidow → ⊥) × (b ≡ PopulationWidow → ⊥) × (b ≡ InvalidWidow → ⊥)
+IsActive Retired = ⊥
+IsActive Population = ⊥
+IsActive Invalid = ⊥
+IsActive Widow = ⊥
+IsActive RetiredWidow = ⊥
+IsActive PopulationWidow = ⊥
+IsActive InvalidWidow = ⊥
+IsActive Active = Unit {0}
+IsActive ActiveRetirement = Unit {0}
+IsActive ActiveInvalidity = Unit {0}
+IsActive ActiveInvalidityRetirement = Unit {0}
+IsActive ActiveDeathWidow = Unit {0}
+IsActive ActiveRetiredWidow = Unit {0}
+IsActive ActiveOrRetiredWidow = Unit {0}
+IsActive ActiveInvalidWidow = Unit {0}
+IsActive ActiveWidow = Unit {0}
+
+pub active_share_is : (f : Figures) (interest t : ℕ) (b : Benefit) → IsActive b → (x : ℕ) → active_share f interest t b x ≡ share_number f interest t b x
+active_share_is f interest t Retired h x = absurd h
+active_share_is f interest t Population h x = absurd h
+active_share_is f interest t Invalid h x = absurd h
+active_share_is f interest t Widow h x = absurd h
+active_share_is f interest t RetiredWidow h x = absurd h
+active_share_is f interest t PopulationWidow h x = absurd h
+active_share_is f interest t InvalidWidow h x = absurd h
+active_share_is f interest t Active h x = refl
+active_share_is f interest t ActiveRetirement h x = refl
+active_share_is f interest t ActiveInvalidity h x = refl
+active_share_is f interest t ActiveInvalidityRetirement h x = sym (picked_two (ltb x f.final_age) _ _)
+active_share_is f interest t ActiveDeathWidow h x = refl
+active_share_is f interest t ActiveRetiredWidow h x = refl
+active_share_is f interest t ActiveOrRetiredWidow h x = sym (picked_two (ltb x f.final_age) _ _)
+active_share_is f interest t ActiveInvalidWidow h x = refl
+active_share_is f interest t ActiveWidow h x = sym (picked (ltb x f.final_age) _ _ _)
+
+-- none of the benefits of a life
+abbrev pub OffLife : Benefit → Type 0
+OffLife b = (b ≡ Retired → ⊥) × (b ≡ Population → ⊥) × (b ≡ Invalid → ⊥) × (b ≡ Widow → ⊥) × (b ≡ RetiredWidow → ⊥) × (b ≡ PopulationWidow → ⊥) × (b ≡ InvalidWidow → ⊥)
 
 -- an active's survival and share are the benefit's
 module _ (f : Figures) (interest t : ℕ) where
   abbrev ActiveAt : Benefit → ℕ → Type 0
   ActiveAt b x = (stays_on f interest t x ≡ survival_number f interest t b x) × (active_share f interest t b x ≡ share_number f interest t b x)
 
-  active_is : (b : Benefit) → IsActive b → (x : ℕ) → ActiveAt b x
+  active_is : (b : Benefit) → OffLife b → (x : ℕ) → ActiveAt b x
   active_is Retired h x = absurd (h.0 refl)
   active_is Population h x = absurd (h.1 refl)
   active_is Invalid h x = absurd (h.2 refl)
@@ -303,15 +340,15 @@ module _ (f : Figures) (interest t : ℕ) where
   active_is RetiredWidow h x = absurd (h.4 refl)
   active_is PopulationWidow h x = absurd (h.5 refl)
   active_is InvalidWidow h x = absurd (h.6 refl)
-  active_is Active h x = (refl, refl)
-  active_is ActiveRetirement h x = (refl, refl)
-  active_is ActiveInvalidity h x = (refl, refl)
-  active_is ActiveInvalidityRetirement h x = (refl, sym (picked_two (ltb x f.final_age) _ _))
-  active_is ActiveDeathWidow h x = (refl, refl)
-  active_is ActiveRetiredWidow h x = (refl, refl)
-  active_is ActiveOrRetiredWidow h x = (refl, sym (picked_two (ltb x f.final_age) _ _))
-  active_is ActiveInvalidWidow h x = (refl, refl)
-  active_is ActiveWidow h x = (refl, sym (picked (ltb x f.final_age) _ _ _))
+  active_is Active h x = (refl, active_share_is f interest t Active tt x)
+  active_is ActiveRetirement h x = (refl, active_share_is f interest t ActiveRetirement tt x)
+  active_is ActiveInvalidity h x = (refl, active_share_is f interest t ActiveInvalidity tt x)
+  active_is ActiveInvalidityRetirement h x = (refl, active_share_is f interest t ActiveInvalidityRetirement tt x)
+  active_is ActiveDeathWidow h x = (refl, active_share_is f interest t ActiveDeathWidow tt x)
+  active_is ActiveRetiredWidow h x = (refl, active_share_is f interest t ActiveRetiredWidow tt x)
+  active_is ActiveOrRetiredWidow h x = (refl, active_share_is f interest t ActiveOrRetiredWidow tt x)
+  active_is ActiveInvalidWidow h x = (refl, active_share_is f interest t ActiveInvalidWidow tt x)
+  active_is ActiveWidow h x = (refl, active_share_is f interest t ActiveWidow tt x)
 
 -- sums along equal paths are equal
 same_running : (s s' l l' w : ℕ → ℕ) → ((k : ℕ) → (s k ≡ s' k) × (l k ≡ l' k)) → (n k : ℕ) → running s l w n k ≡ running s' l' w n k
@@ -339,7 +376,7 @@ module _ (f : Figures) (interest t x : ℕ) (amounts : List ℕ) (low short : �
   pub summed_as : (b b' : Benefit) → b ≡ b' → length amounts ≡ span f.final_age b x → low ≡ running (λ k. survival_number f interest t b' (x + k)) (λ k. share_number f interest t b' (x + k)) W (length amounts) 0 → short ≡ slack W (length amounts) 0 → Summed b
   summed_as b b' same years el es = subst Summed (sym same) (summed b' (years ∙ ap (λ v. span f.final_age v x) same) el es)
 
-  pub summed_active : (b : Benefit) → IsActive b → length amounts ≡ span f.final_age b x → low ≡ running (λ k. stays_on f interest t (x + k)) (λ k. active_share f interest t b (x + k)) W (length amounts) 0 → short ≡ slack W (length amounts) 0 → Summed b
+  pub summed_active : (b : Benefit) → OffLife b → length amounts ≡ span f.final_age b x → low ≡ running (λ k. stays_on f interest t (x + k)) (λ k. active_share f interest t b (x + k)) W (length amounts) 0 → short ≡ slack W (length amounts) 0 → Summed b
   summed_active b active years el es = summed b years (el ∙ same_running _ _ _ _ W (λ k. active_is f interest t b active (x + k)) (length amounts) 0) es
 
 -- What an active's path reads is modest.
