@@ -5,7 +5,7 @@ ghost use Rattle.valuation.specs.Fixed.{scale, fixed, product};
 // The number that stands for 1.
 pub(crate) const SCALE: u64 = 1 << 56;
 
-// n/d, which is at most 255. Where both are below two million, as all of a valuation's are, two divisions of 64 bits are
+// n/d, which is at most 255. Where both are at most two million, as all of a valuation's are, two divisions of 64 bits are
 // quicker than one of 128: the first leaves a rest, and the second divides it.
 pub(crate) fn fixed(n: u64, d: u64) -> u64
     requires { (0 < d) × (n ≤ 255 * d) }
