@@ -4,5 +4,6 @@
 pub mod interface;
 pub mod kind;
 pub mod loading;
+pub mod setting;
 pub mod shift;
 pub mod straight_line;

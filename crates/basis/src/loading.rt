@@ -1,11 +1,12 @@
 // The loading: a layer that raises or lowers the death chances of the basis below by a factor.
-ghost use Rattle.std.specs.Prelude.{◌≡◌, ◌≤◌};
+ghost use Rattle.std.specs.Prelude.{◌≡◌, ◌≤◌, refl};
 ghost use Rattle.fault.specs.Faults.{Outcome};
 ghost use Rattle.basis.specs.Layers.{loaded, loading_fault, raised};
 ghost use Rattle.basis.specs.Layered.{loaded_lawful};
 
 use crate::interface::Basis;
 use crate::kind::{CERTAIN, Kind, LAST_AGE};
+use crate::setting::{Laid, Setting};
 use fault::{Fault, Refusal};
 
 // The range of a loading's factor, in thousandths.
@@ -22,29 +23,16 @@ pub struct Loading {
 }
 
 // The layer: a loading over any basis.
-#[derive(Clone, Copy, Drop)]
-pub struct Loaded<B> {
-    loading: Loading,
-    below: B,
-}
+pub type Loaded<B> = Laid<Loading, B>;
 
 impl Loading {
     pub fn new(thousandths: u32) -> Result<Loading, Fault>
         ensures { Outcome result (loading_fault thousandths) (λ s. s.thousandths ≡ thousandths) }
     {
-        if thousandths < LEAST_LOADING || thousandths > GREATEST_LOADING {
-            return Err(Fault::new(Refusal::Loading, 0, 0));
+        if !(LEAST_LOADING..=GREATEST_LOADING).contains(&thousandths) {
+            return Err(Refusal::Loading.into());
         }
         Ok(Loading { thousandths })
-    }
-
-    pub fn over<B: Basis>(self, below: B) -> Loaded<B>
-        ensures { (result.loading ≡ self) × (result.below ≡ below) }
-    {
-        Loaded {
-            loading: self,
-            below,
-        }
     }
 
     // A chance times the factor, whole part, at most the given chance.
@@ -55,24 +43,20 @@ impl Loading {
     }
 }
 
-impl<B: Basis> Basis for Loaded<B> {
-    ghost figures = { λ b. loaded b.loading.thousandths (B.Basis.figures b.below) };
+impl Setting for Loading {
+    ghost laid = { λ s. loaded s.thousandths };
 
-    ghost lawful = { λ b. loaded_lawful (B.Basis.figures b.below) (B.Basis.lawful b.below) b.loading.thousandths };
+    ghost aged = { λ s f. refl };
 
-    fn final_age(&self) -> u32 {
-        self.below.final_age()
-    }
+    ghost lawful = { λ s f l. loaded_lawful f l s.thousandths };
 
-    fn figure(&self, kind: Kind, age: u32) -> u32 {
-        let figure = self.below.figure(kind, age);
+    fn figure_over<B: Basis>(&self, below: &B, kind: Kind, age: u32) -> u32 {
+        let figure = below.figure(kind, age);
         match kind {
             Kind::Invalidity | Kind::Married | Kind::SpouseAge => figure,
-            Kind::ActiveDeath => self
-                .loading
-                .raised(figure, CERTAIN - self.below.figure(Kind::Invalidity, age)),
+            Kind::ActiveDeath => self.raised(figure, CERTAIN - below.figure(Kind::Invalidity, age)),
             _ if age == LAST_AGE => CERTAIN,
-            _ => self.loading.raised(figure, CERTAIN),
+            _ => self.raised(figure, CERTAIN),
         }
     }
 }

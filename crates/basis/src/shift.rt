@@ -1,11 +1,12 @@
 // The age shift: a layer that reads the chances of the basis below at another age.
-ghost use Rattle.std.specs.Prelude.{◌≡◌, pos, negsuc, ◌+ℤ◌, ◌≤ℤ◌, if◌then◌else◌, nat_eq};
+ghost use Rattle.std.specs.Prelude.{◌≡◌, pos, negsuc, ◌+ℤ◌, ◌≤ℤ◌, if◌then◌else◌, nat_eq, refl};
 ghost use Rattle.fault.specs.Faults.{Outcome};
 ghost use Rattle.basis.specs.Layers.{shifted, shift_fault, brought, read_age};
 ghost use Rattle.basis.specs.Layered.{shifted_lawful};
 
 use crate::interface::Basis;
 use crate::kind::{Kind, LAST_AGE};
+use crate::setting::{Laid, Setting};
 use fault::{Fault, Refusal};
 
 // The greatest number of years that a shift goes up or down.
@@ -20,26 +21,16 @@ pub struct Shift {
 }
 
 // The layer: a shift over any basis.
-#[derive(Clone, Copy, Drop)]
-pub struct Shifted<B> {
-    shift: Shift,
-    below: B,
-}
+pub type Shifted<B> = Laid<Shift, B>;
 
 impl Shift {
     pub fn new(years: i32) -> Result<Shift, Fault>
         ensures { Outcome result (shift_fault years) (λ s. s.years ≡ years) }
     {
-        if years < -GREATEST_SHIFT || years > GREATEST_SHIFT {
-            return Err(Fault::new(Refusal::Shift, 0, 0));
+        if !(-GREATEST_SHIFT..=GREATEST_SHIFT).contains(&years) {
+            return Err(Refusal::Shift.into());
         }
         Ok(Shift { years })
-    }
-
-    pub fn over<B: Basis>(self, below: B) -> Shifted<B>
-        ensures { (result.shift ≡ self) × (result.below ≡ below) }
-    {
-        Shifted { shift: self, below }
     }
 
     // The age at which a list of the basis below is read.
@@ -65,21 +56,18 @@ impl Shift {
     }
 }
 
-impl<B: Basis> Basis for Shifted<B> {
-    ghost figures = { λ b. shifted b.shift.years (B.Basis.figures b.below) };
+impl Setting for Shift {
+    ghost laid = { λ s. shifted s.years };
 
-    ghost lawful = { λ b. shifted_lawful (B.Basis.figures b.below) (B.Basis.lawful b.below) b.shift.years };
+    ghost aged = { λ s f. refl };
 
-    fn final_age(&self) -> u32 {
-        self.below.final_age()
-    }
+    ghost lawful = { λ s f l. shifted_lawful f l s.years };
 
-    fn figure(&self, kind: Kind, age: u32) -> u32 {
-        let final_age = self.below.final_age();
+    fn figure_over<B: Basis>(&self, below: &B, kind: Kind, age: u32) -> u32 {
+        let final_age = below.final_age();
         if age >= kind.count(final_age) {
             return 0;
         }
-        self.below
-            .figure(kind, self.shift.read_age(final_age, kind, age))
+        below.figure(kind, self.read_age(final_age, kind, age))
     }
 }

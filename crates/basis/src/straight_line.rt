@@ -25,7 +25,7 @@ impl StraightLine {
     pub fn new(final_age: u32, invalidity: u32) -> Result<StraightLine, Fault>
         ensures { Outcome result (straight_line_fault final_age invalidity) (λ b. (b.final_age ≡ final_age) × (b.invalidity ≡ invalidity)) }
     {
-        if final_age < LEAST_FINAL_AGE || final_age > GREATEST_FINAL_AGE {
+        if !(LEAST_FINAL_AGE..=GREATEST_FINAL_AGE).contains(&final_age) {
             return Err(Fault::within(Part::Basis, Refusal::FinalAge, 0, 0));
         }
         if invalidity > GREATEST_INVALIDITY {

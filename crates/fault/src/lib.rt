@@ -92,41 +92,52 @@ impl Refusal {
         }
     }
 
-    // The word as it is printed: of two words, joined by a hyphen, so that a printed fault has five words.
-    pub(crate) fn label(self) -> &'static str
-        ensures { result.now ≡ hyphened (rule self).word }
-    {
-        match self {
-            Refusal::FinalAge => "final-age",
-            Refusal::OpenEnd => "open-end",
-            _ => self.word(),
-        }
-    }
-
     pub(crate) fn part(self) -> Part
         ensures { result ≡ (rule self).part }
     {
-        match self.number() {
-            1..=9 | 21 => Part::Book,
-            10 | 11 => Part::Basis,
-            12 | 13 => Part::Terms,
-            14..=17 => Part::Valuation,
-            _ => Part::Stock,
+        match self {
+            Refusal::Stub
+            | Refusal::Edition
+            | Refusal::FinalAge
+            | Refusal::Contents
+            | Refusal::Length
+            | Refusal::Figure
+            | Refusal::Exits
+            | Refusal::Seam
+            | Refusal::OpenEnd
+            | Refusal::Buffer => Part::Book,
+            Refusal::Shift | Refusal::Loading => Part::Basis,
+            Refusal::Interest | Refusal::Instalments => Part::Terms,
+            Refusal::Age | Refusal::Span | Refusal::Amount | Refusal::Column => Part::Valuation,
+            Refusal::Known | Refusal::Unknown | Refusal::Full => Part::Stock,
         }
     }
 }
 
-impl Part {
-    pub(crate) fn name(self) -> &'static str
-        ensures { result.now ≡ part_name self }
-    {
-        match self {
+// A refusal is printed by its word, of two words joined by a hyphen, so that a printed fault has five words.
+impl fmt::Display for Refusal {
+    ghost output = { λ why. Some (hyphened (rule why).word) };
+
+    fn fmt<W: fmt::Write>(&self, f: &mut fmt::Formatter<W>) -> fmt::Result {
+        f.pad(match self {
+            Refusal::FinalAge => "final-age",
+            Refusal::OpenEnd => "open-end",
+            _ => self.word(),
+        })
+    }
+}
+
+impl fmt::Display for Part {
+    ghost output = { λ part. Some (part_name part) };
+
+    fn fmt<W: fmt::Write>(&self, f: &mut fmt::Formatter<W>) -> fmt::Result {
+        f.pad(match self {
             Part::Book => "book",
             Part::Basis => "basis",
             Part::Terms => "terms",
             Part::Valuation => "valuation",
             Part::Stock => "stock",
-        }
+        })
     }
 }
 
@@ -150,16 +161,27 @@ impl Fault {
     }
 }
 
+// A refusal that has nothing to point at.
+impl From<Refusal> for Fault {
+    ghost from_gives = { λ why e. e ≡ fault why 0 0 };
+
+    fn from(refusal: Refusal) -> Fault {
+        Fault::new(refusal, 0, 0)
+    }
+}
+
 impl fmt::Display for Fault {
     ghost output = { λ e. Some (fault_text e) };
 
     fn fmt<W: fmt::Write>(&self, f: &mut fmt::Formatter<W>) -> fmt::Result {
         let number = self.refusal.number();
-        let word = self.refusal.label();
-        let part = self.part.name();
-        let first = self.place.first;
-        let second = self.place.second;
-        write!(f, "{number} {word} {part} {first} {second}")
+        let Fault {
+            refusal,
+            part,
+            place,
+        } = *self;
+        let Place { first, second } = place;
+        write!(f, "{number} {refusal} {part} {first} {second}")
     }
 }
 
