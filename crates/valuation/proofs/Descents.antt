@@ -6,9 +6,6 @@ use Rattle.std.proofs.lemmas.Bool.{cases_eq}
 use Rattle.basis.specs.declared.kind.Kind.{Kind}
 use Rattle.basis.specs.Figures.{Figures}
 use Rattle.valuation.specs.Fixed.{scale, product}
-use Rattle.valuation.specs.declared.level.Level.{Level}
-use Rattle.valuation.specs.declared.level.Level.TheVariants.{Annuities, Pensions, Widows}
-use Rattle.valuation.specs.Columns.{Apart, Reads}
 use Rattle.valuation.specs.Pair.{running, goes_on, level_number}
 
 -- a sum from a later year on is the sum from year 0 of a path that begins then
@@ -36,35 +33,27 @@ pub level_end : (f : Figures) (interest t : ℕ) (b : Kind) (l : ℕ → ℕ) (x
 unfolding level_number running
 level_end f interest t b l x h = let none : 121 - x ≡ 0 = omega arith in ap (λ n. running (λ k. goes_on f interest t b (x + k)) (λ k. l (x + k)) (λ _. scale) n 0) none
 
--- the ages from k on are filled, from a place on; later is the value at k; and what was before the place is as it was
-pub record Down (value : ℕ → ℕ) (place : ℕ) (was column : List ℕ) (k later : ℕ) : Type 0 where
-  pub long : length column ≡ length was
+-- the ages from k on are filled; later is the value at k
+pub record Down (value : ℕ → ℕ) (column : List ℕ) (k later : ℕ) : Type 0 where
+  pub long : length column ≡ 121
   pub here : later ≡ value k
-  pub done : (x : ℕ) → k ≤ x → x < 121 → get_or column (place + x) 0 ≡ value x
-  pub before : (x : ℕ) → x < place → get_or column x 0 ≡ get_or was x 0
+  pub done : (x : ℕ) → k ≤ x → x < 121 → get_or column x 0 ≡ value x
 
-pub down_none : (value : ℕ → ℕ) (place : ℕ) (column : List ℕ) → value 121 ≡ 0 → Down value place column column 121 0
-down_none value place column end = record { long = refl; here = sym end; done = λ x low high. absurd (omega arith); before = λ x l. refl }
+pub down_none : (value : ℕ → ℕ) (column : List ℕ) → value 121 ≡ 0 → length column ≡ 121 → Down value column 121 0
+down_none value column end long = record { long = long; here = sym end; done = λ x low high. absurd (omega arith) }
 
-pub down_more : (value : ℕ → ℕ) (place : ℕ) (was column : List ℕ) (k later next : ℕ) → 0 < k → k ≤ 121 → place + 121 ≤ length was → next ≡ value (k - 1) → Down value place was column k later → Down value place was (set column (place + (k - 1)) next) (k - 1) next
-down_more value place was column k later next some few room same down =
+pub down_more : (value : ℕ → ℕ) (column : List ℕ) (k later next : ℕ) → 0 < k → k ≤ 121 → next ≡ value (k - 1) → Down value column k later → Down value (set column (k - 1) next) (k - 1) next
+down_more value column k later next some few same down =
     let j = k - 1 in
-    let inside : place + j < length column = omega (arith, down.long) in
+    let inside : j < length column = omega (arith, down.long) in
     record {
-      long = length-set column (place + j) next ∙ down.long;
+      long = length-set column j next ∙ down.long;
       here = same;
       done = λ x low high. ⊎_elim
-          (λ e. ap (λ y. get_or (set column (place + j) next) (place + y) 0) e ∙ get_or-set_same column (place + j) next 0 inside ∙ same ∙ ap value (sym e))
-          (λ ne. get_or-set_other column (place + j) (place + x) next 0 (λ e. ne (omega (arith, e))) ∙ down.done x (omega (arith, ne)) high)
+          (λ e. ap (λ y. get_or (set column j next) y 0) e ∙ get_or-set_same column j next 0 inside ∙ same ∙ ap value (sym e))
+          (λ ne. get_or-set_other column j x next 0 (λ e. ne (omega (arith, e))) ∙ down.done x (omega (arith, ne)) high)
           (cases_eq x j);
-      before = λ x l. get_or-set_other column (place + j) x next 0 (λ e. absurd (omega (arith, e))) ∙ down.before x l;
     }
-
--- what the loop reads stays
-pub reads_kept : (f : Figures) (interest t : ℕ) (level : Level) (place : ℕ) (was column : List ℕ) → Apart level place → length column ≡ length was → ((x : ℕ) → x < place → get_or column x 0 ≡ get_or was x 0) → Reads f interest t level was → Reads f interest t level column
-reads_kept f interest t Annuities place was column apart long before reads = tt
-reads_kept f interest t Pensions place was column apart long before reads = tt
-reads_kept f interest t Widows place was column apart long before reads = (omega (arith, long, reads.0), λ x l. before (0 + x) (omega arith) ∙ reads.1 x l)
 
 -- the number that the code has at the next age down
 pub next_value : (f : Figures) (interest t : ℕ) (b : Kind) (l : ℕ → ℕ) (k later share goes part : ℕ) → 0 < k → k ≤ 121 → share ≡ l (k - 1) → goes ≡ goes_on f interest t b (k - 1) → part ≡ product goes later

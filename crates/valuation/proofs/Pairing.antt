@@ -1,5 +1,5 @@
 -- The stated pair encloses the exact value. Assumes nothing.
-use Rattle.std.proofs.Common.{◌≡◌, ℕ, zero, suc, ◌+◌, ◌*◌, ◌/◌, ◌<◌, ◌≤◌, Bool, true, false, ltb, List, length, get_or, sym, refl, ap, ◌∙◌, subst, mul-le-mul_right, arith}
+use Rattle.std.proofs.Common.{◌≡◌, ℕ, zero, suc, ◌+◌, ◌*◌, ◌/◌, ◌<◌, ◌≤◌, Bool, true, false, ltb, List, length, get_or, Option, Some, None, sym, refl, ap, ◌∙◌, subst, mul-le-mul_right, arith}
 use Rattle.std.proofs.Math.Nat.{div-le_of_le-mul}
 use Rattle.std.proofs.lemmas.Bool.{le-ltb, lt-ltb}
 use Rattle.std.proofs.lemmas.Bool.Decides.{nat_tests}
@@ -16,6 +16,10 @@ use Rattle.valuation.specs.Exact.{exact_cents, paid, lives, stays, survives, sha
 use Rattle.valuation.specs.Fixed.{scale, product, Stands}
 use Rattle.valuation.specs.Rates.{kept_number, loss_number, paid_number}
 use Rattle.valuation.specs.Pair.{running, slack, weight, stays_on, goes_on, share_number, survival_number, level_number, pension_number, widowed_number, turning_invalid_number, turning_invalid_widow_number, low_units, high_units, lower_cents, upper_cents, lower, upper}
+use Rattle.valuation.specs.declared.stream.Level.{Level}
+use Rattle.valuation.specs.declared.stream.Stream.{Stream}
+use Rattle.valuation.specs.Streams.{retires_to, stream_of, turns_to}
+use Rattle.valuation.specs.Columns.{Reads, WidowsFor, level_share}
 use Rattle.valuation.specs.ActivePath.{active_share, below_number, final_number}
 use Rattle.valuation.specs.Enclosure.{PairsEnclose}
 use Rattle.valuation.specs.Valued.{Valued}
@@ -163,10 +167,10 @@ span_few z h ActiveOrRetiredWidow x = omega arith
 span_few z h ActiveInvalidWidow x = omega arith
 span_few z h ActiveWidow x = omega arith
 
-listed_some : (t : ℕ) → listed t ≡ true → 0 < t
+pub listed_some : (t : ℕ) → listed t ≡ true → 0 < t
 listed_some t h = grind (arith, nat_tests)
 
-listed_few : (t : ℕ) → listed t ≡ true → t ≤ 12
+pub listed_few : (t : ℕ) → listed t ≡ true → t ≤ 12
 listed_few t h = grind (arith, nat_tests)
 
 -- a year's part of the sum and of its slack, where the amount is at most a million
@@ -323,32 +327,32 @@ active_share_is f interest t ActiveOrRetiredWidow h x = sym (picked_two (ltb x f
 active_share_is f interest t ActiveInvalidWidow h x = refl
 active_share_is f interest t ActiveWidow h x = sym (picked (ltb x f.final_age) _ _ _)
 
--- none of the benefits of a life
-abbrev pub OffLife : Benefit → Type 0
-OffLife b = (b ≡ Retired → ⊥) × (b ≡ Population → ⊥) × (b ≡ Invalid → ⊥) × (b ≡ Widow → ⊥) × (b ≡ RetiredWidow → ⊥) × (b ≡ PopulationWidow → ⊥) × (b ≡ InvalidWidow → ⊥)
-
--- an active's survival and share are the benefit's
+-- A benefit's survival and share are those of its stream, or of an active where it has none.
 module _ (f : Figures) (interest t : ℕ) where
-  abbrev ActiveAt : Benefit → ℕ → Type 0
-  ActiveAt b x = (stays_on f interest t x ≡ survival_number f interest t b x) × (active_share f interest t b x ≡ share_number f interest t b x)
+  abbrev At : Option Stream → Benefit → ℕ → Type 0
+  At None b x = (stays_on f interest t x ≡ survival_number f interest t b x) × (active_share f interest t b x ≡ share_number f interest t b x)
+  At (Some s) b x = (goes_on f interest t s.population x ≡ survival_number f interest t b x) × (level_share f interest t s.population s.level x ≡ share_number f interest t b x)
 
-  active_is : (b : Benefit) → OffLife b → (x : ℕ) → ActiveAt b x
-  active_is Retired h x = absurd (h.0 refl)
-  active_is Population h x = absurd (h.1 refl)
-  active_is Invalid h x = absurd (h.2 refl)
-  active_is Widow h x = absurd (h.3 refl)
-  active_is RetiredWidow h x = absurd (h.4 refl)
-  active_is PopulationWidow h x = absurd (h.5 refl)
-  active_is InvalidWidow h x = absurd (h.6 refl)
-  active_is Active h x = (refl, active_share_is f interest t Active tt x)
-  active_is ActiveRetirement h x = (refl, active_share_is f interest t ActiveRetirement tt x)
-  active_is ActiveInvalidity h x = (refl, active_share_is f interest t ActiveInvalidity tt x)
-  active_is ActiveInvalidityRetirement h x = (refl, active_share_is f interest t ActiveInvalidityRetirement tt x)
-  active_is ActiveDeathWidow h x = (refl, active_share_is f interest t ActiveDeathWidow tt x)
-  active_is ActiveRetiredWidow h x = (refl, active_share_is f interest t ActiveRetiredWidow tt x)
-  active_is ActiveOrRetiredWidow h x = (refl, active_share_is f interest t ActiveOrRetiredWidow tt x)
-  active_is ActiveInvalidWidow h x = (refl, active_share_is f interest t ActiveInvalidWidow tt x)
-  active_is ActiveWidow h x = (refl, active_share_is f interest t ActiveWidow tt x)
+  at : (b : Benefit) (x : ℕ) → At (stream_of b) b x
+  at Retired x = (refl, refl)
+  at Population x = (refl, refl)
+  at Invalid x = (refl, refl)
+  at Widow x = (refl, refl)
+  at RetiredWidow x = (refl, refl)
+  at PopulationWidow x = (refl, refl)
+  at InvalidWidow x = (refl, refl)
+  at Active x = (refl, active_share_is f interest t Active tt x)
+  at ActiveRetirement x = (refl, active_share_is f interest t ActiveRetirement tt x)
+  at ActiveInvalidity x = (refl, active_share_is f interest t ActiveInvalidity tt x)
+  at ActiveInvalidityRetirement x = (refl, active_share_is f interest t ActiveInvalidityRetirement tt x)
+  at ActiveDeathWidow x = (refl, active_share_is f interest t ActiveDeathWidow tt x)
+  at ActiveRetiredWidow x = (refl, active_share_is f interest t ActiveRetiredWidow tt x)
+  at ActiveOrRetiredWidow x = (refl, active_share_is f interest t ActiveOrRetiredWidow tt x)
+  at ActiveInvalidWidow x = (refl, active_share_is f interest t ActiveInvalidWidow tt x)
+  at ActiveWidow x = (refl, active_share_is f interest t ActiveWidow tt x)
+
+  at_stream : (b : Benefit) (o : Option Stream) → stream_of b ≡ o → (x : ℕ) → At o b x
+  at_stream b o same x = subst (λ p. At p b x) same (at b x)
 
 -- sums along equal paths are equal
 same_running : (s s' l l' w : ℕ → ℕ) → ((k : ℕ) → (s k ≡ s' k) × (l k ≡ l' k)) → (n k : ℕ) → running s l w n k ≡ running s' l' w n k
@@ -366,18 +370,91 @@ module _ (f : Figures) (interest t x : ℕ) (amounts : List ℕ) (low short : �
   abbrev W : ℕ → ℕ
   W k = weight (get_or amounts k 0)
 
-  summed : (b : Benefit) → length amounts ≡ span f.final_age b x → low ≡ running (λ k. survival_number f interest t b (x + k)) (λ k. share_number f interest t b (x + k)) W (length amounts) 0 → short ≡ slack W (length amounts) 0 → Summed b
+  -- a sum along the survival and the share of the benefit
+  summed : (b : Benefit) (s l : ℕ → ℕ) → ((k : ℕ) → (s k ≡ survival_number f interest t b (x + k)) × (l k ≡ share_number f interest t b (x + k))) → length amounts ≡ span f.final_age b x → low ≡ running s l W (length amounts) 0 → short ≡ slack W (length amounts) 0 → Summed b
   unfolding low_units high_units
-  summed b years el es =
-      let low-is = el ∙ ap (λ n. running (λ k. survival_number f interest t b (x + k)) (λ k. share_number f interest t b (x + k)) W n 0) years in
+  summed b s l same years el es =
+      let low-is = el ∙ same_running _ _ _ _ W same (length amounts) 0 ∙ ap (λ n. running (λ k. survival_number f interest t b (x + k)) (λ k. share_number f interest t b (x + k)) W n 0) years in
       (low-is, ap (λ n. n + short) low-is ∙ ap (λ n. low_units f interest t b x amounts + n) (es ∙ ap (λ n. slack W n 0) years))
 
-  -- of a benefit that is known to be this one
-  pub summed_as : (b b' : Benefit) → b ≡ b' → length amounts ≡ span f.final_age b x → low ≡ running (λ k. survival_number f interest t b' (x + k)) (λ k. share_number f interest t b' (x + k)) W (length amounts) 0 → short ≡ slack W (length amounts) 0 → Summed b
-  summed_as b b' same years el es = subst Summed (sym same) (summed b' (years ∙ ap (λ v. span f.final_age v x) same) el es)
+  pub summed_life : (b : Benefit) (s : Stream) → stream_of b ≡ Some s → length amounts ≡ span f.final_age b x → low ≡ running (λ k. goes_on f interest t s.population (x + k)) (λ k. level_share f interest t s.population s.level (x + k)) W (length amounts) 0 → short ≡ slack W (length amounts) 0 → Summed b
+  summed_life b s same years el es = summed b _ _ (λ k. at_stream f interest t b (Some s) same (x + k)) years el es
 
-  pub summed_active : (b : Benefit) → OffLife b → length amounts ≡ span f.final_age b x → low ≡ running (λ k. stays_on f interest t (x + k)) (λ k. active_share f interest t b (x + k)) W (length amounts) 0 → short ≡ slack W (length amounts) 0 → Summed b
-  summed_active b active years el es = summed b years (el ∙ same_running _ _ _ _ W (λ k. active_is f interest t b active (x + k)) (length amounts) 0) es
+  pub summed_active : (b : Benefit) → stream_of b ≡ None → length amounts ≡ span f.final_age b x → low ≡ running (λ k. stays_on f interest t (x + k)) (λ k. active_share f interest t b (x + k)) W (length amounts) 0 → short ≡ slack W (length amounts) 0 → Summed b
+  summed_active b none years el es = summed b _ _ (λ k. at_stream f interest t b None none (x + k)) years el es
+
+-- what a benefit's streams read is there where the widows' annuities are
+module _ (f : Figures) (interest t : ℕ) (widows : List ℕ) where
+  abbrev ReadsOf : Option Stream → Type 0
+  ReadsOf None = Unit {0}
+  ReadsOf (Some s) = Reads f interest t s.level widows
+
+  reads_of : (b : Benefit) → WidowsFor f interest t b widows → ReadsOf (stream_of b)
+  reads_of Retired h = tt
+  reads_of Population h = tt
+  reads_of Invalid h = tt
+  reads_of Widow h = tt
+  reads_of RetiredWidow h = h refl
+  reads_of PopulationWidow h = h refl
+  reads_of InvalidWidow h = h refl
+  reads_of Active h = tt
+  reads_of ActiveRetirement h = tt
+  reads_of ActiveInvalidity h = tt
+  reads_of ActiveInvalidityRetirement h = tt
+  reads_of ActiveDeathWidow h = tt
+  reads_of ActiveRetiredWidow h = tt
+  reads_of ActiveOrRetiredWidow h = tt
+  reads_of ActiveInvalidWidow h = tt
+  reads_of ActiveWidow h = tt
+
+  pub reads_stream : (b : Benefit) (s : Stream) → stream_of b ≡ Some s → WidowsFor f interest t b widows → Reads f interest t s.level widows
+  reads_stream b s same h = subst ReadsOf same (reads_of b h)
+
+  abbrev ReadsLevel : Option Level → Type 0
+  ReadsLevel None = Unit {0}
+  ReadsLevel (Some level) = Reads f interest t level widows
+
+  retired_reads : (b : Benefit) → WidowsFor f interest t b widows → ReadsLevel (retires_to b)
+  retired_reads Retired h = tt
+  retired_reads Population h = tt
+  retired_reads Invalid h = tt
+  retired_reads Widow h = tt
+  retired_reads RetiredWidow h = tt
+  retired_reads PopulationWidow h = tt
+  retired_reads InvalidWidow h = tt
+  retired_reads Active h = tt
+  retired_reads ActiveRetirement h = tt
+  retired_reads ActiveInvalidity h = tt
+  retired_reads ActiveInvalidityRetirement h = tt
+  retired_reads ActiveDeathWidow h = tt
+  retired_reads ActiveRetiredWidow h = h refl
+  retired_reads ActiveOrRetiredWidow h = h refl
+  retired_reads ActiveInvalidWidow h = tt
+  retired_reads ActiveWidow h = h refl
+
+  pub reads_retirement : (b : Benefit) (level : Level) → retires_to b ≡ Some level → WidowsFor f interest t b widows → Reads f interest t level widows
+  reads_retirement b level same h = subst ReadsLevel same (retired_reads b h)
+
+  turned_reads : (b : Benefit) → WidowsFor f interest t b widows → ReadsLevel (turns_to b)
+  turned_reads Retired h = tt
+  turned_reads Population h = tt
+  turned_reads Invalid h = tt
+  turned_reads Widow h = tt
+  turned_reads RetiredWidow h = tt
+  turned_reads PopulationWidow h = tt
+  turned_reads InvalidWidow h = tt
+  turned_reads Active h = tt
+  turned_reads ActiveRetirement h = tt
+  turned_reads ActiveInvalidity h = tt
+  turned_reads ActiveInvalidityRetirement h = tt
+  turned_reads ActiveDeathWidow h = tt
+  turned_reads ActiveRetiredWidow h = tt
+  turned_reads ActiveOrRetiredWidow h = tt
+  turned_reads ActiveInvalidWidow h = h refl
+  turned_reads ActiveWidow h = h refl
+
+  pub reads_invalidity : (b : Benefit) (level : Level) → turns_to b ≡ Some level → WidowsFor f interest t b widows → Reads f interest t level widows
+  reads_invalidity b level same h = subst ReadsLevel same (turned_reads b h)
 
 -- What an active's path reads is modest.
 pub active_at : (f : Figures) (interest t : ℕ) (b : Benefit) (x : ℕ) → f.final_age ≤ x → active_share f interest t b x ≡ final_number f interest t b

@@ -10,8 +10,8 @@ use Rattle.valuation.specs.Exact.{half, paid, chance, lives, stays, level, annui
 use Rattle.valuation.specs.Fixed.{scale, fixed, product, Stands}
 use Rattle.valuation.specs.Rates.{discount_number, loss_number, kept_number, chance_number, lives_number, paid_number}
 use Rattle.valuation.specs.Pair.{running, half_number, sooner_number, goes_on, stays_on, to_next_year, level_number, annuity_number, wid_number, left_number, pension_number, widowed_number, turning_invalid_number, turning_invalid_widow_number}
-use Rattle.valuation.specs.declared.level.Level.{Level}
-use Rattle.valuation.specs.declared.level.Level.TheVariants.{Annuities, Pensions, Widows}
+use Rattle.valuation.specs.declared.stream.Level.{Level}
+use Rattle.valuation.specs.declared.stream.Level.TheVariants.{Annuities, Pensions, Widows}
 use Rattle.valuation.specs.Columns.{level_of, level_share}
 use Rattle.valuation.proofs.Fractions.{proper_add, proper_mul}
 use Rattle.valuation.proofs.Enclosures.{stands_fixed, stands_sum, stands_same, stands_wider, stands_product}

@@ -10,5 +10,7 @@ pub mod Rates
 pub mod Pair
 pub mod Enclosure
 pub mod Valued
+pub mod Streams
 pub mod Columns
 pub mod ActivePath
+pub mod Printed

@@ -3,7 +3,7 @@ ghost use Rattle.std.specs.Prelude.{◌≡◌, ◌≤◌, length};
 ghost use Rattle.fault.specs.Faults.{Outcome};
 ghost use Rattle.valuation.specs.Admission.{valuation_fault, amounts_fault};
 
-use crate::benefit::Benefit;
+use crate::promise::Promise;
 use basis::interface::Basis;
 use fault::{Fault, Refusal};
 
@@ -17,23 +17,26 @@ pub const LEAST_COLUMN: usize = 512;
 // checks, which are the age, the number of amounts, each amount, and the column.
 pub fn check_promise<B: Basis>(
     basis: &B,
-    benefit: Benefit,
-    age: u32,
-    amounts: &[u32],
+    promise: Promise<'_>,
     column: &[u64],
 ) -> Result<(), Fault>
-    ensures { Outcome result (valuation_fault (B.figures basis.now).final_age benefit age amounts.now (length column.now)) (λ _. Unit {0}) }
+    ensures { Outcome result (valuation_fault (B.figures basis.now).final_age promise.entry.benefit promise.entry.age promise.entry.amounts.now (length column.now)) (λ _. Unit {0}) }
 {
+    let Promise {
+        benefit,
+        age,
+        amounts,
+    } = promise;
     let final_age = basis.final_age();
     if age < benefit.first_age(final_age) || age > benefit.last_age(final_age) {
-        return Err(Fault::new(Refusal::Age, 0, 0));
+        return Err(Refusal::Age.into());
     }
     if amounts.len() != benefit.span(final_age, age) {
-        return Err(Fault::new(Refusal::Span, 0, 0));
+        return Err(Refusal::Span.into());
     }
     check_amounts(amounts)?;
     if column.len() < LEAST_COLUMN {
-        return Err(Fault::new(Refusal::Column, 0, 0));
+        return Err(Refusal::Column.into());
     }
     Ok(())
 }
@@ -54,23 +57,32 @@ fn check_amounts(amounts: &[u32]) -> Result<(), Fault>
 #[cfg(test)]
 mod tests {
     use super::*;
+    use crate::benefit::Benefit;
     use basis::straight_line::StraightLine;
     use std::test::Fail;
+
+    fn retired(age: u32, amounts: &[u32]) -> Promise<'_> {
+        Promise {
+            benefit: Benefit::Retired,
+            age,
+            amounts,
+        }
+    }
 
     #[test]
     fn a_column_is_looked_at_last(rt: HostRuntime) -> Result<(), Fail> {
         let line = StraightLine::new(65, 0)?;
         let short = [0u64; 511];
         assert_eq!(rt;
-            check_promise(&line, Benefit::Retired, 120, &[1000], &short),
+            check_promise(&line, retired(120, &[1000]), &short),
             Err(Fault::new(Refusal::Column, 0, 0))
         );
         assert_eq!(rt;
-            check_promise(&line, Benefit::Retired, 120, &[1_000_001], &short),
+            check_promise(&line, retired(120, &[1_000_001]), &short),
             Err(Fault::new(Refusal::Amount, 0, 0))
         );
         assert_eq!(rt;
-            check_promise(&line, Benefit::Retired, 64, &[], &short),
+            check_promise(&line, retired(64, &[]), &short),
             Err(Fault::new(Refusal::Age, 0, 0))
         );
         Ok(())

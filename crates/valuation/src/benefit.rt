@@ -1,9 +1,12 @@
 // The sixteen benefits that a promise may be of.
-ghost use Rattle.std.specs.Prelude.{◌≡◌, MatchOption, ◌≢◌};
+ghost use Rattle.std.specs.Prelude.{◌≡◌, MatchOption, ◌≢◌, Some};
 ghost use Rattle.valuation.specs.Benefits.{name, first_age, last_age, span};
+ghost use Rattle.valuation.specs.Streams.{leaves_widow, retires_to, stream_of, turns_to};
 ghost use Rattle.valuation.specs.declared.benefit.Benefit.{Benefit as Kinds};
 
-use basis::kind::LAST_AGE;
+use crate::stream::{Level, Stream};
+use basis::kind::{Kind, LAST_AGE};
+use std::fmt;
 
 // Seven of a life that goes on to the last age, then nine of an active who is followed to the final age.
 #[derive(Clone, Copy, PartialEq, Eq, Debug)]
@@ -128,5 +131,79 @@ impl Benefit {
         ensures { result ≡ span final_age self age }
     {
         (self.last_age(final_age) as usize + 1).saturating_sub(age as usize)
+    }
+
+    // The stream of a life's benefit; an active's has none.
+    pub(crate) fn stream(self) -> Option<Stream>
+        ensures { result ≡ stream_of self }
+    {
+        let (population, level) = match self {
+            Benefit::Retired | Benefit::Population => (Kind::PopulationDeath, Level::Pensions),
+            Benefit::Invalid => (Kind::InvalidDeath, Level::Pensions),
+            Benefit::Widow => (Kind::WidowDeath, Level::Pensions),
+            Benefit::RetiredWidow | Benefit::PopulationWidow => {
+                (Kind::PopulationDeath, Level::Widows)
+            }
+            Benefit::InvalidWidow => (Kind::InvalidDeath, Level::Widows),
+            _ => return None,
+        };
+        Some(Stream {
+            population,
+            level,
+        })
+    }
+
+    // What an active's benefit pays along the whole population from retirement on.
+    pub(crate) fn retirement(self) -> Option<Level>
+        ensures { result ≡ retires_to self }
+    {
+        match self {
+            Benefit::ActiveRetirement | Benefit::ActiveInvalidityRetirement => {
+                Some(Level::Pensions)
+            }
+            Benefit::ActiveRetiredWidow
+            | Benefit::ActiveOrRetiredWidow
+            | Benefit::ActiveWidow => Some(Level::Widows),
+            _ => None,
+        }
+    }
+
+    // And along the invalids from invalidity on.
+    pub(crate) fn invalidity(self) -> Option<Level>
+        ensures { result ≡ turns_to self }
+    {
+        match self {
+            Benefit::ActiveInvalidity | Benefit::ActiveInvalidityRetirement => {
+                Some(Level::Annuities)
+            }
+            Benefit::ActiveInvalidWidow | Benefit::ActiveWidow => Some(Level::Widows),
+            _ => None,
+        }
+    }
+
+    // Whether a death leaves a widow's pension.
+    pub(crate) fn leaves_widow(self) -> bool
+        ensures { result ≡ leaves_widow self }
+    {
+        match self {
+            Benefit::RetiredWidow
+            | Benefit::PopulationWidow
+            | Benefit::InvalidWidow
+            | Benefit::ActiveDeathWidow
+            | Benefit::ActiveRetiredWidow
+            | Benefit::ActiveOrRetiredWidow
+            | Benefit::ActiveInvalidWidow
+            | Benefit::ActiveWidow => true,
+            _ => false,
+        }
+    }
+}
+
+// A benefit is printed by its name.
+impl fmt::Display for Benefit {
+    ghost output = { λ b. Some (name b) };
+
+    fn fmt<W: fmt::Write>(&self, f: &mut fmt::Formatter<W>) -> fmt::Result {
+        f.pad(self.name())
     }
 }

@@ -1,90 +1,104 @@
-// The working column: what widows' and invalids' shares read, a value at each age.
-ghost use Rattle.std.specs.Prelude.{◌≡◌, ℕ, ◌+◌, ◌<◌, ◌≤◌, length, slice_index};
-ghost use Rattle.valuation.specs.Columns.{Apart, FilledAt, Reads, WidowsFirst, level_of, level_share};
+// The working column in its two parts: the widows' annuities, and what an active's retirement or invalidity is worth, a
+// value at each age in each.
+ghost use Rattle.std.specs.Prelude.{◌≡◌, ℕ, ◌≤◌, length};
+ghost use Rattle.valuation.specs.Columns.{Filled, Reads, WidowsFilled, level_of, level_share};
 ghost use Rattle.valuation.specs.Pair.{left_number, wid_number, widowed_number};
 
-use crate::fixed::{SCALE, fixed, product};
-use crate::level::Level;
+use crate::chance::Chance;
+use crate::fixed::{SCALE, product};
 use crate::rates::Rates;
+use crate::stream::{Level, Stream};
 use basis::interface::Basis;
-use basis::kind::{CERTAIN, Kind};
+use basis::kind::Kind;
 
-// How many numbers one quantity takes: one for each age.
+// How many numbers a part has: one for each age.
 pub(crate) const AGES: usize = 121;
 
-// The widow's pension that a death leaves, for a widow aged y.
-fn wid<B: Basis>(rates: &Rates, basis: &B, widows: &[u64], y: u32) -> u64
-    requires { (WidowsFirst (B.figures basis.now) rates.now.interest rates.now.instalments widows.now) × (y ≤ 120) }
-    ensures { result ≡ wid_number (B.figures basis.now) rates.now.interest rates.now.instalments y }
-{
-    let next = if y == 120 { 0 } else { widows[y as usize + 1] };
-    product(rates.to_next_year(basis, Kind::WidowDeath, y), next)
+// Both parts, lent to a path.
+#[derive(Clone, Copy)]
+pub(crate) struct Column<'a> {
+    pub(crate) widows: &'a [u64],
+    pub(crate) later: &'a [u64],
 }
 
-// The same for whoever dies at an age, married or not.
-pub(crate) fn left<B: Basis>(rates: &Rates, basis: &B, widows: &[u64], age: u32) -> u64
-    requires { WidowsFirst (B.figures basis.now) rates.now.interest rates.now.instalments widows.now }
-    ensures { result ≡ left_number (B.figures basis.now) rates.now.interest rates.now.instalments age }
+// The value at an age, nothing past the last.
+pub(crate) fn value_at(part: &[u64], age: usize) -> u64
+    ensures { (value : ℕ → ℕ) → Filled value part.now → ((x : ℕ) → 121 ≤ x → value x ≡ 0) → result ≡ value age }
 {
-    let married = fixed(basis.figure(Kind::Married, age) as u64, CERTAIN as u64);
-    product(
-        married,
-        wid(rates, basis, widows, basis.figure(Kind::SpouseAge, age)),
-    )
+    part.get(age).copied().unwrap_or(0)
 }
 
-// The share of a population's deaths at an age.
-pub(crate) fn widowed<B: Basis>(
-    rates: &Rates,
-    basis: &B,
-    widows: &[u64],
-    kind: Kind,
-    age: u32,
-) -> u64
-    requires { WidowsFirst (B.figures basis.now) rates.now.interest rates.now.instalments widows.now }
-    ensures { result ≡ widowed_number (B.figures basis.now) rates.now.interest rates.now.instalments kind age }
-{
-    let dying = fixed(basis.figure(kind, age) as u64, CERTAIN as u64);
-    product(dying, left(rates, basis, widows, age))
-}
-
-// The yearly share of a value of amount 1 a year.
-pub(crate) fn level_share<B: Basis>(
-    rates: &Rates,
-    basis: &B,
-    widows: &[u64],
-    kind: Kind,
-    level: Level,
-    age: u32,
-) -> u64
-    requires { Reads (B.figures basis.now) rates.now.interest rates.now.instalments level widows.now }
-    ensures { result ≡ level_share (B.figures basis.now) rates.now.interest rates.now.instalments kind level age }
-{
-    match level {
-        Level::Annuities => SCALE,
-        Level::Pensions => rates.pension(basis, kind, age),
-        Level::Widows => widowed(rates, basis, widows, kind, age),
+impl Rates {
+    // The widow's pension that a death leaves, for a widow aged y.
+    fn wid<B: Basis>(&self, basis: &B, widows: &[u64], y: u32) -> u64
+        requires { WidowsFilled (B.figures basis.now) self.now.interest self.now.instalments widows.now }
+        ensures { result ≡ wid_number (B.figures basis.now) self.now.interest self.now.instalments y }
+    {
+        product(
+            self.to_next_year(basis, Kind::WidowDeath, y),
+            value_at(widows, y as usize + 1),
+        )
     }
-}
 
-// Puts a value of amount 1 a year at each age into a column from a place on, from the last age down.
-pub(crate) fn fill<B: Basis>(
-    rates: &Rates,
-    basis: &B,
-    kind: Kind,
-    level: Level,
-    column: &mut [u64],
-    place: usize,
-)
-    requires { (Reads (B.figures basis.now) rates.now.interest rates.now.instalments level column.old) × ((Apart level place) × (place + 121 ≤ length column.old)) }
-    ensures filled { FilledAt place (level_of (B.figures basis.now) rates.now.interest rates.now.instalments kind level) column.new }
-    ensures before { (x : ℕ) → x < place → slice_index column.new x ≡ slice_index column.old x }
-    ensures len { length column.new ≡ length column.old }
-{
-    let mut later = 0;
-    for age in (0..AGES).rev() {
-        let share = level_share(rates, basis, column, kind, level, age as u32);
-        later = share + product(rates.goes_on(basis, kind, age as u32), later);
-        column[place + age] = later;
+    // The same for whoever dies at an age, married or not.
+    pub(crate) fn left<B: Basis>(&self, basis: &B, widows: &[u64], age: u32) -> u64
+        requires { WidowsFilled (B.figures basis.now) self.now.interest self.now.instalments widows.now }
+        ensures { result ≡ left_number (B.figures basis.now) self.now.interest self.now.instalments age }
+    {
+        product(
+            Chance::of(basis, Kind::Married, age).number(),
+            self.wid(basis, widows, basis.figure(Kind::SpouseAge, age)),
+        )
+    }
+
+    // The share of a population's deaths at an age.
+    pub(crate) fn widowed<B: Basis>(&self, basis: &B, widows: &[u64], kind: Kind, age: u32) -> u64
+        requires { WidowsFilled (B.figures basis.now) self.now.interest self.now.instalments widows.now }
+        ensures { result ≡ widowed_number (B.figures basis.now) self.now.interest self.now.instalments kind age }
+    {
+        product(
+            Chance::of(basis, kind, age).number(),
+            self.left(basis, widows, age),
+        )
+    }
+
+    // The yearly share of a stream of amount 1 a year.
+    pub(crate) fn level_share<B: Basis>(
+        &self,
+        basis: &B,
+        widows: &[u64],
+        stream: Stream,
+        age: u32,
+    ) -> u64
+        requires { Reads (B.figures basis.now) self.now.interest self.now.instalments stream.level widows.now }
+        ensures { result ≡ level_share (B.figures basis.now) self.now.interest self.now.instalments stream.population stream.level age }
+    {
+        match stream.level {
+            Level::Annuities => SCALE,
+            Level::Pensions => self.pension(basis, stream.population, age),
+            Level::Widows => self.widowed(basis, widows, stream.population, age),
+        }
+    }
+
+    // Puts the value of a stream of amount 1 a year at each age into a part, from the last age down. The loop counts the
+    // ages itself, since nothing is known of what is written through a reversed iterator.
+    pub(crate) fn fill<B: Basis>(
+        &self,
+        basis: &B,
+        widows: &[u64],
+        stream: Stream,
+        part: &mut [u64],
+    )
+        requires reads { Reads (B.figures basis.now) self.now.interest self.now.instalments stream.level widows.now }
+        requires long { length part.old ≡ 121 }
+        ensures { Filled (level_of (B.figures basis.now) self.now.interest self.now.instalments stream.population stream.level) part.new }
+    {
+        let mut later = 0;
+        for age in (0..AGES).rev() {
+            let share = self.level_share(basis, widows, stream, age as u32);
+            let goes_on = self.goes_on(basis, stream.population, age as u32);
+            later = share + product(goes_on, later);
+            part[age] = later;
+        }
     }
 }

@@ -8,8 +8,10 @@ pub(crate) const SCALE: u64 = 1 << 56;
 // n/d, which is at most 255. Where both are at most two million, as all of a valuation's are, two divisions of 64 bits are
 // quicker than one of 128: the first leaves a rest, and the second divides it.
 pub(crate) fn fixed(n: u64, d: u64) -> u64
-    requires { (0 < d) × (n ≤ 255 * d) }
-    ensures { result ≡ fixed n d }
+    requires some { 0 < d }
+    requires fits { n ≤ 255 * d }
+    ensures value { result ≡ fixed n d }
+    ensures below { n ≤ d → result ≤ scale }
 {
     if n <= d && d <= 2_000_000 {
         let shifted = n * 8_796_093_022_208;
@@ -21,7 +23,8 @@ pub(crate) fn fixed(n: u64, d: u64) -> u64
 // The product of a number that is at most 1 and another.
 pub(crate) fn product(a: u64, b: u64) -> u64
     requires { a ≤ scale }
-    ensures { result ≡ product a b }
+    ensures value { result ≡ product a b }
+    ensures below { result ≤ b }
 {
     (a as u128 * b as u128 / SCALE as u128) as u64
 }

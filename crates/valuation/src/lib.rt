@@ -4,13 +4,15 @@
 mod active;
 pub mod admission;
 pub mod benefit;
+mod chance;
 mod columns;
 mod fixed;
 pub mod known;
-mod level;
 mod life;
 pub mod pair;
 mod path;
+pub mod promise;
 mod rates;
+mod stream;
 pub mod terms;
 pub mod value;

@@ -3,13 +3,14 @@ ghost use Rattle.std.specs.Prelude.{◌≡◌, ℕ, ◌*◌, ◌≤◌, List, le
 ghost use Rattle.valuation.specs.Fixed.{scale};
 ghost use Rattle.valuation.specs.Pair.{running, slack, weight};
 
+use crate::columns::Column;
 use crate::fixed::{SCALE, product};
 use basis::interface::Basis;
 
 // A path as a valuation runs along it: for each year the discounted chance to be on it a year on, and the year's share.
 pub(crate) trait Path<B: Basis> {
-    // what a column holds that this path reads on this basis
-    ghost ready: { Self → B → List ℕ → Type 0 };
+    // what the column's two parts hold that this path reads on this basis
+    ghost ready: { Self → B → List ℕ → List ℕ → Type 0 };
 
     ghost survivals: { Self → B → ℕ → ℕ };
 
@@ -20,8 +21,9 @@ pub(crate) trait Path<B: Basis> {
         ensures value { result ≡ survivals self.now basis.now year }
         ensures below { result ≤ scale };
 
-    fn share(&self, basis: &B, column: &[u64], year: u32) -> u64
-        requires { (ready self.now basis.now column.now) × (year ≤ 121) }
+    fn share(&self, basis: &B, column: Column<'_>, year: u32) -> u64
+        requires ready { ready self.now basis.now column.widows.now column.later.now }
+        requires inside { year ≤ 121 }
         ensures value { result ≡ shares self.now basis.now year }
         ensures modest { result ≤ 250 * scale };
 }
@@ -30,11 +32,14 @@ pub(crate) trait Path<B: Basis> {
 pub(crate) fn run<B: Basis, P: Path<B>>(
     path: &P,
     basis: &B,
-    column: &[u64],
+    column: Column<'_>,
     amounts: &[u32],
 ) -> (u64, u64)
-    requires { (P.ready path.now basis.now column.now) × ((length amounts.now ≤ 121) × (((k : ℕ) → slice_index amounts.now k ≤ 1000000))) }
-    ensures { (result.0 ≡ running (P.survivals path.now basis.now) (P.shares path.now basis.now) (λ k. weight (slice_index amounts.now k)) (length amounts.now) 0) × (result.1 ≡ slack (λ k. weight (slice_index amounts.now k)) (length amounts.now) 0) }
+    requires ready { P.ready path.now basis.now column.widows.now column.later.now }
+    requires few { length amounts.now ≤ 121 }
+    requires modest { (k : ℕ) → slice_index amounts.now k ≤ 1000000 }
+    ensures low { result.0 ≡ running (P.survivals path.now basis.now) (P.shares path.now basis.now) (λ k. weight (slice_index amounts.now k)) (length amounts.now) 0 }
+    ensures short { result.1 ≡ slack (λ k. weight (slice_index amounts.now k)) (length amounts.now) 0 }
 {
     let mut low = 0;
     let mut short = 0;

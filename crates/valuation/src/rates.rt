@@ -1,9 +1,10 @@
 // What a valuation takes from its terms and from the figures of one year, in fixed-point numbers.
 ghost use Rattle.std.specs.Prelude.{◌≡◌, ◌<◌, ◌≤◌};
 ghost use Rattle.valuation.specs.Fixed.{scale};
-ghost use Rattle.valuation.specs.Pair.{goes_on, half_number, pension_number, sooner_number, stays_on, to_next_year};
-ghost use Rattle.valuation.specs.Rates.{discount_number, kept_number, lives_number, loss_number, paid_number};
+ghost use Rattle.valuation.specs.Pair.{goes_on, pension_number, stays_on, to_next_year};
+ghost use Rattle.valuation.specs.Rates.{discount_number, kept_number, loss_number, paid_number};
 
+use crate::chance::Chance;
 use crate::fixed::{fixed, product};
 use crate::terms::Terms;
 use basis::interface::Basis;
@@ -22,12 +23,18 @@ pub(crate) struct Rates {
     ghost rest: { kept ≡ kept_number interest instalments },
     ghost some: { 0 < instalments },
     ghost few: { instalments ≤ 12 },
+    ghost discount_most: { discount ≤ scale },
+    ghost loss_most: { loss ≤ scale },
+    ghost kept_most: { kept ≤ scale },
 }
 
 // K and 1 − K of t instalments.
 fn parts_of_year(interest: u64, t: u64) -> (u64, u64)
-    requires { (interest ≤ 2000) × ((0 < t) × (t ≤ 12)) }
-    ensures { (result.0 ≡ loss_number interest t) × (result.1 ≡ kept_number interest t) }
+    requires modest { interest ≤ 2000 }
+    requires some { 0 < t }
+    requires few { t ≤ 12 }
+    ensures loss { result.0 ≡ loss_number interest t }
+    ensures kept { result.1 ≡ kept_number interest t }
 {
     let mut loss = 0;
     let mut rest = 0;
@@ -39,10 +46,10 @@ fn parts_of_year(interest: u64, t: u64) -> (u64, u64)
     (loss, rest)
 }
 
-impl Rates {
-    pub(crate) fn of(terms: Terms) -> Rates
-        ensures { (result.interest ≡ terms.interest) × (result.instalments ≡ terms.instalments) }
-    {
+impl From<Terms> for Rates {
+    ghost from_gives = { λ terms rates. (rates.interest ≡ terms.interest) × (rates.instalments ≡ terms.instalments) };
+
+    fn from(terms: Terms) -> Rates {
         let interest = terms.interest as u64;
         let (loss, kept) = parts_of_year(interest, terms.instalments as u64);
         Rates {
@@ -53,13 +60,15 @@ impl Rates {
             kept,
         }
     }
+}
 
+impl Rates {
     // The discounted chance of a life to go on for another year: v·p.
     pub(crate) fn goes_on<B: Basis>(&self, basis: &B, kind: Kind, age: u32) -> u64
         ensures below { result ≤ scale }
         ensures value { result ≡ goes_on (B.figures basis.now) self.now.interest self.now.instalments kind age }
     {
-        product(self.discount, opposite(basis.figure(kind, age)))
+        product(self.discount, Chance::of(basis, kind, age).opposite())
     }
 
     // The discounted chance of an active to be one for another year.
@@ -92,33 +101,6 @@ impl Rates {
         ensures below { result ≤ scale }
         ensures value { result ≡ to_next_year (B.figures basis.now) self.now.interest self.now.instalments kind age }
     {
-        product(self.discount, half(basis.figure(kind, age)))
+        product(self.discount, Chance::of(basis, kind, age).half())
     }
-}
-
-// 1 − q.
-fn opposite(q: u32) -> u64
-    requires { q ≤ 1000000 }
-    ensures { result ≡ lives_number q }
-{
-    fixed((CERTAIN - q) as u64, CERTAIN as u64)
-}
-
-fn half(q: u32) -> u64
-    requires { q ≤ 1000000 }
-    ensures { result ≡ half_number q }
-{
-    if q == CERTAIN {
-        return 0;
-    }
-    fixed(2 * (CERTAIN - q) as u64, (2 * CERTAIN - q) as u64)
-}
-
-// 1 less half: of those who are alive at mid-year, the part that dies before the year's end.
-pub(crate) fn sooner(q: u32) -> u64
-    requires { q ≤ 1000000 }
-    ensures value { result ≡ sooner_number q }
-    ensures below { result ≤ scale }
-{
-    fixed(q as u64, (2 * CERTAIN - q) as u64)
 }

@@ -22,14 +22,14 @@ impl Terms {
         ensures { Outcome result (terms_fault interest instalments) (λ t. (t.interest ≡ interest) × (t.instalments ≡ instalments)) }
     {
         if interest > GREATEST_INTEREST {
-            return Err(Fault::new(Refusal::Interest, 0, 0));
+            return Err(Refusal::Interest.into());
         }
         match instalments {
             1 | 2 | 3 | 4 | 6 | 12 => Ok(Terms {
                 interest,
                 instalments,
             }),
-            _ => Err(Fault::new(Refusal::Instalments, 0, 0)),
+            _ => Err(Refusal::Instalments.into()),
         }
     }
 }

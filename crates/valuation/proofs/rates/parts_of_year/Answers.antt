@@ -6,8 +6,8 @@ use Rattle.valuation.proofs.rates.parts_of_year.Goals as goal
 
 pub fixed-loss-requires : goal.fixed-loss-requires
 fixed-loss-requires c =
-    let l = loss_small c.args.interest c.args.t c.loop-m.m c.requires.1.0 c.loop-m-test.true in
-    (whole_some c.args.interest c.args.t c.loop-m.m c.requires.1.0, omega arith)
+    let l = loss_small c.args.interest c.args.t c.loop-m.m c.requires.some c.loop-m-test.true in
+    record { some = whole_some c.args.interest c.args.t c.loop-m.m c.requires.some; fits = omega arith }
 
 pub overflow_add-loss : goal.overflow_add-loss
 overflow_add-loss c =
@@ -15,14 +15,14 @@ overflow_add-loss c =
     let t = c.args.t in
     omega (
       arith,
-      added_fits t c.loop-m.m c.loop-m.loss c.fixed-loss.result (λ m. fixed (m * (10000 + i)) (part_den i t m)) c.requires.1.1 c.loop-m-test.true c.fixed-loss.ensures
-          (λ k l. fixed_small (k * (10000 + i)) (part_den i t k) (loss_small i t k c.requires.1.0 l)) c.loop-m.invariant.0,
+      added_fits t c.loop-m.m c.loop-m.loss c.fixed-loss.result (λ m. fixed (m * (10000 + i)) (part_den i t m)) c.requires.few c.loop-m-test.true c.fixed-loss.ensures.value
+          (λ k l. fixed_small (k * (10000 + i)) (part_den i t k) (loss_small i t k c.requires.some l)) c.loop-m.invariant.0,
     )
 
 pub fixed-rest-requires : goal.fixed-rest-requires
 fixed-rest-requires c =
-    let l = kept_small c.args.interest c.args.t c.loop-m.m c.requires.1.0 in
-    (whole_some c.args.interest c.args.t c.loop-m.m c.requires.1.0, omega arith)
+    let l = kept_small c.args.interest c.args.t c.loop-m.m c.requires.some in
+    record { some = whole_some c.args.interest c.args.t c.loop-m.m c.requires.some; fits = omega arith }
 
 pub overflow_add-rest : goal.overflow_add-rest
 overflow_add-rest c =
@@ -30,22 +30,23 @@ overflow_add-rest c =
     let t = c.args.t in
     omega (
       arith,
-      added_fits t c.loop-m.m c.loop-m.rest c.fixed-rest.result (λ m. fixed (10000 * (t - m)) (part_den i t m)) c.requires.1.1 c.loop-m-test.true c.fixed-rest.ensures
-          (λ k l. fixed_small (10000 * (t - k)) (part_den i t k) (kept_small i t k c.requires.1.0)) c.loop-m.invariant.1,
+      added_fits t c.loop-m.m c.loop-m.rest c.fixed-rest.result (λ m. fixed (10000 * (t - m)) (part_den i t m)) c.requires.few c.loop-m-test.true c.fixed-rest.ensures.value
+          (λ k l. fixed_small (10000 * (t - k)) (part_den i t k) (kept_small i t k c.requires.some)) c.loop-m.invariant.1,
     )
 
 pub loop-m-preserved : goal.loop-m-preserved
 loop-m-preserved c =
     let i = c.args.interest in
     let t = c.args.t in (
-      added_step t c.loop-m.m c.loop-m.loss c.fixed-loss.result (λ m. fixed (m * (10000 + i)) (part_den i t m)) c.loop-m-test.true c.fixed-loss.ensures c.loop-m.invariant.0,
-      added_step t c.loop-m.m c.loop-m.rest c.fixed-rest.result (λ m. fixed (10000 * (t - m)) (part_den i t m)) c.loop-m-test.true c.fixed-rest.ensures c.loop-m.invariant.1,
+      added_step t c.loop-m.m c.loop-m.loss c.fixed-loss.result (λ m. fixed (m * (10000 + i)) (part_den i t m)) c.loop-m-test.true c.fixed-loss.ensures.value c.loop-m.invariant.0,
+      added_step t c.loop-m.m c.loop-m.rest c.fixed-rest.result (λ m. fixed (10000 * (t - m)) (part_den i t m)) c.loop-m-test.true c.fixed-rest.ensures.value c.loop-m.invariant.1,
     )
 
 pub returns : goal.returns
 returns c =
     let i = c.args.interest in
-    let t = c.args.t in (
-      added_end t c.loop-m.m c.loop-m.loss (λ m. fixed (m * (10000 + i)) (part_den i t m)) c.loop-m-test.false c.loop-m.invariant.0,
-      added_end t c.loop-m.m c.loop-m.rest (λ m. fixed (10000 * (t - m)) (part_den i t m)) c.loop-m-test.false c.loop-m.invariant.1,
-    )
+    let t = c.args.t in
+    record {
+      loss = added_end t c.loop-m.m c.loop-m.loss (λ m. fixed (m * (10000 + i)) (part_den i t m)) c.loop-m-test.false c.loop-m.invariant.0;
+      kept = added_end t c.loop-m.m c.loop-m.rest (λ m. fixed (10000 * (t - m)) (part_den i t m)) c.loop-m-test.false c.loop-m.invariant.1;
+    }

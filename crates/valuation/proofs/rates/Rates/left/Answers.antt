@@ -1,0 +1,13 @@
+use Rattle.std.proofs.Common.{refl, ap, ◌∙◌}
+use Rattle.basis.specs.declared.kind.Kind.TheVariants.{Married}
+use Rattle.valuation.specs.Rates.{chance_number}
+use Rattle.valuation.specs.Pair.{left_number, wid_number}
+use Rattle.valuation.proofs.Added.{same_product}
+use Rattle.valuation.proofs.rates.Rates.left.Goals as goal
+
+pub returns : goal.returns
+unfolding left_number
+returns g c =
+    let f = g.B.Basis.figures c.args.basis.now in
+    same_product c.product.result _ _ (chance_number (f.figure Married c.args.age)) _ _ c.product.ensures.value (c.number.ensures.value ∙ ap chance_number c.of.ensures)
+    (c.wid.ensures ∙ ap (wid_number f c.args.self.now.interest c.args.self.now.instalments) c.figure.ensures) refl

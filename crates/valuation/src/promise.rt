@@ -1,0 +1,23 @@
+// A promise, as it is handed in and as a valuation takes it.
+ghost use Rattle.std.specs.Prelude.{ℕ, ◌≤◌, length, slice_index};
+
+use crate::benefit::Benefit;
+
+#[derive(Clone, Copy)]
+pub struct Promise<'a> {
+    pub benefit: Benefit,
+    pub age: u32,
+    // one for each year
+    pub amounts: &'a [u32],
+}
+
+// A promise that has passed the checks.
+#[derive(Clone, Copy)]
+pub(crate) struct Taken<'a> {
+    pub(crate) benefit: Benefit,
+    pub(crate) age: u32,
+    pub(crate) amounts: &'a [u32],
+    ghost aged: { age ≤ 120 },
+    ghost few: { length amounts.now ≤ 121 },
+    ghost modest: { (k : ℕ) → slice_index amounts.now k ≤ 1000000 },
+}
