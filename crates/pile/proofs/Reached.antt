@@ -1,6 +1,5 @@
 -- A question on its way down the layers keeps its answer. Assumes nothing.
-use Rattle.std.proofs.Common.{◌≡◌, ℕ, ◌+◌, ◌-◌, ◌<◌, ◌≤◌, Bool, true, false, cond, eqb, List, [], ◌∷◌, ◌++◌, length, get_or, take, drop, ℤ, sym, refl, ap, ◌∙◌, subst, arith}
-use Rattle.std.proofs.lemmas.List.{take_all, drop_all, take_more, drop_more}
+use Rattle.std.proofs.Common.{◌≡◌, ℕ, ◌-◌, ◌<◌, ◌≤◌, Bool, true, false, cond, eqb, List, [], ◌∷◌, ◌++◌, ℤ, sym, refl, ap, ◌∙◌, subst, arith}
 use Rattle.std.proofs.lemmas.Int.{ints, clamps}
 use Rattle.std.proofs.lemmas.Bool.{cond_both, cond-false, ne_eqb}
 use Rattle.std.proofs.lemmas.Bool.Decides.{nat_tests}
@@ -84,39 +83,37 @@ last_up layers above f lawful WidowDeath h = rw (lawful.closed.2, (piled_lawful 
 last_up layers above f lawful Married h = sym (marriage_up layers f).0
 last_up layers above f lawful SpouseAge h = sym (marriage_up layers f).1
 
--- a question about age x has come down to age a, with d layers below it
-pub record Reached (layers : List Layer) (f : Figures) (k : Kind) (x d a : ℕ) : Type 0 where
+-- a question about age x has come down to age a, with these layers below it and these above
+pub record Reached (layers below above : List Layer) (f : Figures) (k : Kind) (x a : ℕ) : Type 0 where
   pub inside : a < count f.final_age k
-  pub same : carried k (greatest (piled (take d layers) f) k a) (drop d layers) ((piled (take d layers) f).figure k a) ≡ (piled layers f).figure k x
+  pub same : carried k (greatest (piled below f) k a) above ((piled below f).figure k a) ≡ (piled layers f).figure k x
 
-pub reached_top : (layers : List Layer) (f : Figures) (k : Kind) (x : ℕ) → x < count f.final_age k → Reached layers f k x (length layers) x
+pub reached_top : (layers : List Layer) (f : Figures) (k : Kind) (x : ℕ) → x < count f.final_age k → Reached layers layers [] f k x x
 unfolding risen
 reached_top layers f k x h = record {
   inside = h;
-  same = rw (take_all (length layers) layers (omega arith), drop_all (length layers) layers (omega arith))
-      (cond_both (deadly k) ((piled layers f).figure k x) ((piled layers f).figure k x) (λ n. n ≡ (piled layers f).figure k x) (λ _. refl) (λ _. refl));
+  same = cond_both (deadly k) ((piled layers f).figure k x) ((piled layers f).figure k x) (λ n. n ≡ (piled layers f).figure k x) (λ _. refl) (λ _. refl);
 }
 
-pub reached_more : (layers : List Layer) (layer : Layer) (f : Figures) (k : Kind) (x d a : ℕ) → Lawful f → d < length layers → layer ≡ get_or layers d layer → (a ≡ 120 → ⊥) → Reached layers f k x (d + 1) a → Reached layers f k x d (age_below f.final_age layer k a)
+pub reached_more : (layers below left above : List Layer) (layer : Layer) (f : Figures) (k : Kind) (x a : ℕ) → Lawful f → below ≡ left ++ layer ∷ [] → (a ≡ 120 → ⊥) → Reached layers below above f k x a → Reached layers left (layer ∷ above) f k x (age_below f.final_age layer k a)
 unfolding piled
-reached_more layers layer f k x d a lawful within read early over =
-    let under = piled (take d layers) f in
-    let aged : under.final_age ≡ f.final_age = piled_aged (take d layers) f in
-    let taken : piled (take (d + 1) layers) f ≡ laid layer under = ap (λ ls. piled ls f) (take_more layers d layer within ∙ ap (λ l. take d layers ++ l ∷ []) (sym read)) ∙ piled_more (take d layers) layer f in
-    let left : drop d layers ≡ layer ∷ drop (d + 1) layers = drop_more layers d layer within ∙ ap (λ l. l ∷ drop (d + 1) layers) (sym read) in
+reached_more layers below left above layer f k x a lawful parts early over =
+    let under = piled left f in
+    let aged : under.final_age ≡ f.final_age = piled_aged left f in
+    let whole : piled below f ≡ laid layer under = ap (λ ls. piled ls f) parts ∙ piled_more left layer f in
     let fits : a < count under.final_age k = rw aged over.inside in
     record {
       inside = below_inside f.final_age layer k a lawful.aged.1 over.inside;
-      same = rw left (rw aged at (carried_up layer (drop (d + 1) layers) under k a fits early) ∙ rw taken at over.same);
+      same = rw aged at (carried_up layer above under k a fits early) ∙ rw whole at over.same;
     }
 
 -- the bottom is reached
-pub reached_bottom : (layers : List Layer) (f : Figures) (k : Kind) (x d a : ℕ) → d ≡ 0 → Reached layers f k x d a → carried k (greatest f k a) (drop d layers) (f.figure k a) ≡ (piled layers f).figure k x
+pub reached_bottom : (layers below above : List Layer) (f : Figures) (k : Kind) (x a : ℕ) → below ≡ [] → Reached layers below above f k x a → carried k (greatest f k a) above (f.figure k a) ≡ (piled layers f).figure k x
 unfolding piled
-reached_bottom layers f k x d a none over = subst (λ n. Reached layers f k x n a → carried k (greatest f k a) (drop n layers) (f.figure k a) ≡ (piled layers f).figure k x) (sym none) (λ o. o.same) over
+reached_bottom layers below above f k x a none over = subst (λ ls. Reached layers ls above f k x a → carried k (greatest f k a) above (f.figure k a) ≡ (piled layers f).figure k x) (sym none) (λ o. o.same) over
 
 -- the last age is reached
-pub reached_last : (layers : List Layer) (f : Figures) (k : Kind) (x d a : ℕ) → Lawful f → a ≡ 120 → Reached layers f k x d a → carried k (greatest f k a) (drop d layers) (f.figure k a) ≡ (piled layers f).figure k x
-reached_last layers f k x d a lawful last over =
-    subst (λ y. Reached layers f k x d y → carried k (greatest f k y) (drop d layers) (f.figure k y) ≡ (piled layers f).figure k x) (sym last)
-    (λ o. last_up (take d layers) (drop d layers) f lawful k o.inside ∙ o.same) over
+pub reached_last : (layers below above : List Layer) (f : Figures) (k : Kind) (x a : ℕ) → Lawful f → a ≡ 120 → Reached layers below above f k x a → carried k (greatest f k a) above (f.figure k a) ≡ (piled layers f).figure k x
+reached_last layers below above f k x a lawful last over =
+    subst (λ y. Reached layers below above f k x y → carried k (greatest f k y) above (f.figure k y) ≡ (piled layers f).figure k x) (sym last)
+    (λ o. last_up below above f lawful k o.inside ∙ o.same) over

@@ -83,6 +83,7 @@ impl Basis for Pile {
 mod tests {
     use super::*;
     use basis::loading::Loading;
+    use basis::setting::Setting;
     use basis::shift::Shift;
     use basis::straight_line::StraightLine;
     use std::test::Fail;

@@ -14,12 +14,13 @@ use basis::kind::{CERTAIN, Kind, LAST_AGE};
 pub(crate) fn descend(layers: &[Layer], final_age: u32, kind: Kind, mut age: u32) -> (&[Layer], u32)
     ensures { (f : Figures) → Lawful f → f.final_age ≡ final_age → age < count f.final_age kind → carried kind (greatest f kind result.1) result.0.now (f.figure kind result.1) ≡ (piled layers.now f).figure kind age }
 {
-    let mut depth = layers.len();
-    while depth > 0 && age != LAST_AGE {
-        depth -= 1;
-        age = layers[depth].age_below(final_age, kind, age);
+    for (depth, layer) in layers.iter().enumerate().rev() {
+        if age == LAST_AGE {
+            return (&layers[depth + 1..], age);
+        }
+        age = layer.age_below(final_age, kind, age);
     }
-    (&layers[depth..], age)
+    (layers, age)
 }
 
 // The bottom's figure at an age, as it comes up through these layers.

@@ -10,6 +10,7 @@ use basis::straight_line::StraightLine;
 use table::Table;
 use valuation::admission::LEAST_COLUMN;
 use valuation::benefit::Benefit;
+use valuation::promise::Promise;
 use valuation::terms::Terms;
 use valuation::value::value;
 
@@ -19,48 +20,32 @@ const YEARS: usize = 121;
 fn benefit_at(place: u32) -> Option<Benefit>
     ensures { result ≡ benefit_at place }
 {
-    let place = place as usize;
-    if place >= Benefit::ALL.len() {
-        return None;
-    }
-    Some(Benefit::ALL[place])
+    Benefit::ALL.get(place as usize).copied()
 }
 
 // The lower number of a promise, 0 if it is refused.
 fn lower<B: Basis>(
     basis: &B,
     terms: Terms,
-    benefit: Benefit,
-    age: u32,
-    amounts: &[u32],
+    promise: Promise<'_>,
     column: &mut [u64],
 ) -> u64
-    requires { (amounts.now ≡ yearly (B.figures basis.now) benefit age) × (length column.old ≡ 512) }
-    ensures value { result ≡ lower_or_none (B.figures basis.now) terms.interest terms.instalments benefit age }
-    ensures len { length column.new ≡ 512 }
+    requires yearly { promise.amounts.now ≡ yearly (B.figures basis.now) promise.benefit promise.age }
+    requires long { length column.old ≡ 512 }
+    ensures { result ≡ lower_or_none (B.figures basis.now) terms.interest terms.instalments promise.entry.benefit promise.entry.age }
 {
-    match value(basis, terms, benefit, age, amounts, column) {
-        Ok(pair) => pair.lower,
-        Err(_) => 0,
-    }
+    value(basis, terms, promise, column).map_or(0, |pair| pair.lower)
 }
 
 // The same promise valued a number of times: the sum of the lower numbers.
-fn repeat<B: Basis>(
-    basis: &B,
-    terms: Terms,
-    benefit: Benefit,
-    age: u32,
-    amounts: &[u32],
-    times: u32,
-) -> u64
-    requires { amounts.now ≡ yearly (B.figures basis.now) benefit age }
-    ensures { result ≡ repeated (B.figures basis.now) terms.interest terms.instalments benefit age times }
+fn repeat<B: Basis>(basis: &B, terms: Terms, promise: Promise<'_>, times: u32) -> u64
+    requires { promise.amounts.now ≡ yearly (B.figures basis.now) promise.benefit promise.age }
+    ensures { result ≡ repeated (B.figures basis.now) terms.interest terms.instalments promise.entry.benefit promise.entry.age times }
 {
     let mut column = [0; LEAST_COLUMN];
     let mut sum = 0u64;
     for _ in 0..times {
-        sum = sum.wrapping_add(lower(basis, terms, benefit, age, amounts, &mut column));
+        sum = sum.wrapping_add(lower(basis, terms, promise, &mut column));
     }
     sum
 }
@@ -84,7 +69,12 @@ fn repeat_at<B: Basis>(
     };
     let amounts = [12_000; YEARS];
     let years = benefit.span(basis.final_age(), age);
-    repeat(basis, terms, benefit, age, &amounts[0..years], times)
+    let promise = Promise {
+        benefit,
+        age,
+        amounts: &amounts[..years],
+    };
+    repeat(basis, terms, promise, times)
 }
 
 // On the table basis as it is before it reads a book.

@@ -1,5 +1,7 @@
 -- The loop of the one sum: what it has after some years, one year more, and at its end. Assumes nothing.
-use Rattle.std.proofs.Common.{◌≡◌, ℕ, suc, ◌+◌, ◌-◌, ◌*◌, ◌/◌, ◌<◌, ◌≤◌, List, length, get_or, sym, refl, ap, ◌∙◌, add_assoc, mul-le-mul_left, arith}
+use Rattle.std.proofs.Common.{◌≡◌, ℕ, suc, ◌+◌, ◌-◌, ◌*◌, ◌/◌, ◌<◌, ◌≤◌, List, [], ◌∷◌, ◌++◌, length, get_or, sym, refl, ap, subst, ◌∙◌, add_assoc, mul-le-mul_left, arith}
+use Rattle.std.proofs.lemmas.List.{append-nil, append_assoc, length_push, length-append}
+use Rattle.std.proofs.Math.Seq.{get_or-append_seam}
 use Rattle.std.proofs.Math.Nat.{div-le_of_le-mul}
 use Rattle.valuation.specs.Fixed.{scale, product}
 use Rattle.valuation.specs.Pair.{running, slack, weight}
@@ -66,3 +68,26 @@ pub run_year : (s l : ℕ → ℕ) (amounts : List ℕ) (k low short share surv 
 run_year s l amounts k low short share surv this later pos inside small es ev modest below et el run =
     let next = run_more s l amounts k low short share surv pos inside small es ev modest below run in
     (ap (λ x. x + later) et ∙ ap (λ x. product (weight (get_or amounts (k - 1) 0)) share + x) el ∙ next.0, next.1, omega (arith, et, el, next.2), next.3)
+
+-- the years that the loop has still to do are the first of all
+abbrev pub Ahead : (ℕ → ℕ) → (ℕ → ℕ) → List ℕ → List ℕ → ℕ → ℕ → Type 0
+Ahead s l amounts rest low short = ((done : List ℕ) × (amounts ≡ rest ++ done)) × Run s l amounts (length rest) low short
+
+pub ahead_none : (s l : ℕ → ℕ) (amounts : List ℕ) → Ahead s l amounts amounts 0 0
+ahead_none s l amounts = (([], sym (append-nil amounts)), run_none s l amounts)
+
+pub ahead_year : (s l : ℕ → ℕ) (amounts rest left : List ℕ) (k a low short share surv this later : ℕ) → rest ≡ left ++ a ∷ [] → k ≡ length left → ((j : ℕ) → get_or amounts j 0 ≤ 1000000) → share ≡ l k → surv ≡ s k → share ≤ 250 * scale → surv ≤ scale
+    → this ≡ product (weight a) share → later ≡ product surv low → Ahead s l amounts rest low short → Ahead s l amounts left (this + later) (short + (weight a * 8388608 / scale + 4))
+ahead_year s l amounts rest left k a low short share surv this later er ek modest es ev small below et el ahead =
+    let n = length rest in
+    let whole = ahead.0.1 ∙ ap (λ xs. xs ++ ahead.0.0) er ∙ append_assoc left (a ∷ []) ahead.0.0 in
+    let longer : n ≡ length left + 1 = ap length er ∙ length_push left a in
+    let inside : n ≤ length amounts = omega (arith, ap length ahead.0.1 ∙ length-append rest ahead.0.0) in
+    let last : n - 1 ≡ length left = omega (arith, longer) in
+    let year : n - 1 ≡ k = last ∙ sym ek in
+    let amount : get_or amounts (n - 1) 0 ≡ a = ap (λ j. get_or amounts j 0) last ∙ ap (λ xs. get_or xs (length left) 0) whole ∙ get_or-append_seam left a ahead.0.0 0 in
+    let run = run_year s l amounts n low short share surv this later (omega (arith, longer)) inside (modest (n - 1)) (es ∙ ap l (sym year)) (ev ∙ ap s (sym year)) small below (et ∙ ap (λ b. product (weight b) share) (sym amount)) el ahead.1 in (
+      (a ∷ ahead.0.0, whole),
+      subst (λ j. Run s l amounts j (this + later) (short + (weight a * 8388608 / scale + 4))) last
+          (subst (λ b. Run s l amounts (n - 1) (this + later) (short + (weight b * 8388608 / scale + 4))) amount run),
+    )

@@ -15,11 +15,7 @@ pub const LEAST_COLUMN: usize = 512;
 
 // Whether a promise would be valued on a basis with a column of this length: the first fault in the order of the
 // checks, which are the age, the number of amounts, each amount, and the column.
-pub fn check_promise<B: Basis>(
-    basis: &B,
-    promise: Promise<'_>,
-    column: &[u64],
-) -> Result<(), Fault>
+pub fn check_promise<B: Basis>(basis: &B, promise: Promise<'_>, column: &[u64]) -> Result<(), Fault>
     ensures { Outcome result (valuation_fault (B.figures basis.now).final_age promise.entry.benefit promise.entry.age promise.entry.amounts.now (length column.now)) (λ _. Unit {0}) }
 {
     let Promise {

@@ -147,10 +147,7 @@ impl Benefit {
             Benefit::InvalidWidow => (Kind::InvalidDeath, Level::Widows),
             _ => return None,
         };
-        Some(Stream {
-            population,
-            level,
-        })
+        Some(Stream { population, level })
     }
 
     // What an active's benefit pays along the whole population from retirement on.
@@ -161,9 +158,8 @@ impl Benefit {
             Benefit::ActiveRetirement | Benefit::ActiveInvalidityRetirement => {
                 Some(Level::Pensions)
             }
-            Benefit::ActiveRetiredWidow
-            | Benefit::ActiveOrRetiredWidow
-            | Benefit::ActiveWidow => Some(Level::Widows),
+            Benefit::ActiveRetiredWidow | Benefit::ActiveOrRetiredWidow | Benefit::ActiveWidow =>
+                Some(Level::Widows),
             _ => None,
         }
     }

@@ -82,13 +82,7 @@ impl Rates {
 
     // Puts the value of a stream of amount 1 a year at each age into a part, from the last age down. The loop counts the
     // ages itself, since nothing is known of what is written through a reversed iterator.
-    pub(crate) fn fill<B: Basis>(
-        &self,
-        basis: &B,
-        widows: &[u64],
-        stream: Stream,
-        part: &mut [u64],
-    )
+    pub(crate) fn fill<B: Basis>(&self, basis: &B, widows: &[u64], stream: Stream, part: &mut [u64])
         requires reads { Reads (B.figures basis.now) self.now.interest self.now.instalments stream.level widows.now }
         requires long { length part.old ≡ 121 }
         ensures { Filled (level_of (B.figures basis.now) self.now.interest self.now.instalments stream.population stream.level) part.new }

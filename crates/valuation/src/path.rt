@@ -43,8 +43,8 @@ pub(crate) fn run<B: Basis, P: Path<B>>(
 {
     let mut low = 0;
     let mut short = 0;
-    for k in (0..amounts.len()).rev() {
-        let weight = amounts[k] as u64 * 104_857_600;
+    for (k, amount) in amounts.iter().enumerate().rev() {
+        let weight = *amount as u64 * 104_857_600;
         let now = product(weight, path.share(basis, column, k as u32));
         low = now + product(path.survival(basis, k as u32), low);
         short += (weight as u128 * 8_388_608 / SCALE as u128) as u64 + 4;

@@ -66,13 +66,7 @@ impl Rates {
     }
 
     // Puts what an active's benefit pays to invalids into a part of the column.
-    fn fill_invalids<B: Basis>(
-        &self,
-        basis: &B,
-        benefit: Benefit,
-        widows: &[u64],
-        part: &mut [u64],
-    )
+    fn fill_invalids<B: Basis>(&self, basis: &B, benefit: Benefit, widows: &[u64], part: &mut [u64])
         requires widows { WidowsFor (B.figures basis.now) self.now.interest self.now.instalments benefit widows.now }
         requires long { length part.old ≡ 121 }
         ensures { Invalids (B.figures basis.now) self.now.interest self.now.instalments (turns_to benefit) part.new }

@@ -1,6 +1,6 @@
-use Rattle.std.proofs.Common.{◌≡◌, length}
+use Rattle.std.proofs.Common.{◌≡◌}
 use Rattle.speed.specs.Repeated.{repeated}
 use Rattle.speed.proofs.repeat.Given as goal
 
 abbrev pub invariant-loop : goal.invariant-loop
-invariant-loop g l = (l.sum ≡ repeated (g.B.Basis.figures l.basis) l.terms.interest l.terms.instalments l.benefit l.age l.counter) × (length l.column ≡ 512)
+invariant-loop g l = l.sum ≡ repeated (g.B.Basis.figures l.basis) l.terms.interest l.terms.instalments l.promise.benefit l.promise.age l.counter

@@ -1,4 +1,4 @@
-use Rattle.std.proofs.Common.{◌≡◌, ℕ, ◌-◌, ◌≤◌, take, drop, replicate, ap, ◌∙◌, arith}
+use Rattle.std.proofs.Common.{◌≡◌, ℕ, ◌≤◌, take, replicate, ap, ◌∙◌}
 use Rattle.std.proofs.lemmas.List.{take-replicate}
 use Rattle.valuation.specs.declared.benefit.Benefit.{Benefit}
 use Rattle.valuation.specs.Benefits.{span}
@@ -6,10 +6,9 @@ use Rattle.valuation.proofs.Pairing.{span_few}
 use Rattle.speed.proofs.repeat_at.Goals as goal
 
 -- the first n of as many years as a promise can have
-first_years : (asked z : ℕ) (b : Benefit) (x n : ℕ) → asked ≡ z → z ≤ 80 → n ≡ span asked b x → take {A = ℕ} (n - 0) (drop 0 (replicate 121 12000)) ≡ replicate (span z b x) 12000
+first_years : (asked z : ℕ) (b : Benefit) (x n : ℕ) → asked ≡ z → z ≤ 80 → n ≡ span asked b x → take {A = ℕ} n (replicate 121 12000) ≡ replicate (span z b x) 12000
 first_years asked z b x n same old years =
-    let all : n - 0 ≡ span z b x = omega (arith, ap (λ a. span a b x) same) in
-    ap (λ k. take {A = ℕ} k (replicate 121 12000)) all ∙ take-replicate (span z b x) 121 12000 (span_few z old b x)
+    ap (λ k. take {A = ℕ} k (replicate 121 12000)) (years ∙ ap (λ a. span a b x) same) ∙ take-replicate (span z b x) 121 12000 (span_few z old b x)
 
 pub repeat-requires : goal.repeat-requires
 repeat-requires g c =

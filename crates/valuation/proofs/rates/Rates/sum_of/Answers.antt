@@ -1,4 +1,4 @@
-use Rattle.std.proofs.Common.{sym, ◌∙◌, arith}
+use Rattle.std.proofs.Common.{sym, ◌∙◌}
 use Rattle.valuation.proofs.Pairing.{summed_life, summed_active}
 use Rattle.valuation.proofs.rates.Rates.sum_of.Goals as goal
 

@@ -1,4 +1,4 @@
-use Rattle.std.proofs.Common.{◌+◌, refl, arith}
+use Rattle.std.proofs.Common.{◌+◌, refl}
 use Rattle.basis.specs.declared.kind.Kind.TheVariants.{WidowDeath}
 use Rattle.valuation.specs.Fixed.{scale}
 use Rattle.valuation.specs.Pair.{annuity_number, to_next_year, wid_number}

@@ -1,4 +1,4 @@
-use Rattle.std.proofs.Common.{◌∙◌, sym, arith}
+use Rattle.std.proofs.Common.{arith}
 use Rattle.valuation.proofs.Pairing.{listed_some, listed_few}
 use Rattle.valuation.proofs.Rating.{loss_below, kept_below}
 use Rattle.valuation.proofs.rates.RatesFromTerms.from.Goals as goal
