@@ -1,5 +1,5 @@
 // The words of a line, and the numbers among them.
-ghost use Rattle.std.specs.Prelude.{◌≡◌, ℕ, ◌<◌, ◌≤◌, true, false, [], ◌∷◌, length, drop, MatchOption, slice_index};
+ghost use Rattle.std.specs.Prelude.{◌≡◌, not, [], ◌∷◌, MatchOption, position};
 ghost use Rattle.protocol.specs.Words.{blank, words};
 
 fn is_blank(byte: u8) -> bool
@@ -8,43 +8,26 @@ fn is_blank(byte: u8) -> bool
     byte == b' ' || byte == b'\t'
 }
 
-// Where the first word begins; the length where there is none.
-fn skip_blanks(line: &[u8]) -> usize
-    ensures inside { result ≤ length line.now }
-    ensures same { words (drop result line.now) ≡ words line.now }
-    ensures dark { result < length line.now → blank (slice_index line.now result) ≡ false }
+// Where the first word begins, if there is one.
+fn begin(line: &[u8]) -> Option<usize>
+    ensures { result ≡ position (λ b. not (blank b)) line.now }
 {
-    for (i, byte) in line.iter().enumerate() {
-        if !is_blank(*byte) {
-            return i;
-        }
-    }
-    line.len()
+    line.iter().position(|byte| !is_blank(*byte))
 }
 
-// Where it ends.
-fn skip_word(line: &[u8]) -> usize
-    ensures inside { result ≤ length line.now }
-    ensures dark { (i : ℕ) → i < result → blank (slice_index line.now i) ≡ false }
-    ensures ends { result < length line.now → blank (slice_index line.now result) ≡ true }
+// Where it ends, if a blank follows it.
+fn end(line: &[u8]) -> Option<usize>
+    ensures { result ≡ position blank line.now }
 {
-    for (i, byte) in line.iter().enumerate() {
-        if is_blank(*byte) {
-            return i;
-        }
-    }
-    line.len()
+    line.iter().position(|byte| is_blank(*byte))
 }
 
 // The first word and what follows it.
 pub fn next_word(line: &[u8]) -> Option<(&[u8], &[u8])>
     ensures { MatchOption result (words line.now ≡ []) (λ p. words line.now ≡ p.0.now ∷ words p.1.now) }
 {
-    let from = skip_blanks(line);
-    if from == line.len() {
-        return None;
-    }
+    let from = begin(line)?;
     let rest = &line[from..];
-    let to = skip_word(rest);
-    Some((&rest[..to], &rest[to..]))
+    let to = end(rest).unwrap_or(rest.len());
+    Some(rest.split_at(to))
 }
