@@ -7,6 +7,7 @@ use anyhow::{Context, anyhow};
 use basis::interface::Basis;
 use basis::kind::Kind;
 use basis::loading::Loading;
+use basis::setting::Setting;
 use basis::shift::Shift;
 use basis::straight_line::StraightLine;
 use fault::Fault;
@@ -102,28 +103,17 @@ fn read_book(
 fn write_book(rt: &HostRuntime, length: usize) -> anyhow::Result<Result<u64, Fault>> {
     let mut buffer = vec![in rt.alloc(); 7u8; length]?;
     let wrote = Table::new().write(buffer.as_mut_slice());
-    let past = match wrote {
-        Ok(n) => n,
-        Err(_) => 0,
-    };
-    for byte in buffer.iter().skip(past) {
-        if *byte != 7 {
-            return Err(anyhow!("a byte past the book was touched"));
-        }
+    let past = wrote.unwrap_or(0);
+    if buffer.iter().skip(past).any(|byte| *byte != 7) {
+        return Err(anyhow!("a byte past the book was touched"));
     }
-    match wrote {
-        Ok(n) => Ok(Ok(n as u64)),
-        Err(fault) => Ok(Err(fault)),
-    }
+    Ok(wrote.map(|n| n as u64))
 }
 
 fn line(words: &mut SplitWhitespace<'_>) -> anyhow::Result<Result<u64, Fault>> {
     let final_age = unsigned(words)?;
     let invalidity = unsigned(words)?;
-    match StraightLine::new(final_age, invalidity) {
-        Ok(basis) => Ok(Ok(census(&basis))),
-        Err(fault) => Ok(Err(fault)),
-    }
+    Ok(StraightLine::new(final_age, invalidity).map(|basis| census(&basis)))
 }
 
 // The death chances of the whole population at the ages that are left of a line.
@@ -140,26 +130,14 @@ fn print_deaths<B: Basis>(
     Ok(())
 }
 
-// A shift over the straight line of final age 65 with no invalidity.
-fn shift(rt: &HostRuntime, words: &mut SplitWhitespace<'_>) -> anyhow::Result<Result<u64, Fault>> {
-    let below = StraightLine::new(65, 0)?;
-    match Shift::new(i32::try_from(number(words)?)?) {
-        Ok(setting) => {
-            let basis = setting.over(below);
-            print_deaths(rt, &basis, words)?;
-            Ok(Ok(census(&basis)))
-        }
-        Err(fault) => Ok(Err(fault)),
-    }
-}
-
-// A loading over it.
-fn loading(
+// A setting, if it is taken, over the straight line of final age 65 with no invalidity.
+fn laid<S: Setting + Drop>(
     rt: &HostRuntime,
+    setting: Result<S, Fault>,
     words: &mut SplitWhitespace<'_>,
 ) -> anyhow::Result<Result<u64, Fault>> {
     let below = StraightLine::new(65, 0)?;
-    match Loading::new(unsigned(words)?) {
+    match setting {
         Ok(setting) => {
             let basis = setting.over(below);
             print_deaths(rt, &basis, words)?;
@@ -198,8 +176,14 @@ fn answer_line(rt: &HostRuntime, text: &str) -> anyhow::Result<()> {
         Some("book") => answer(rt, read_book(rt, &mut words)?),
         Some("buffer") => answer(rt, write_book(rt, usize::try_from(number(&mut words)?)?)?),
         Some("line") => answer(rt, line(&mut words)?),
-        Some("shift") => answer(rt, shift(rt, &mut words)?),
-        Some("loading") => answer(rt, loading(rt, &mut words)?),
+        Some("shift") => {
+            let setting = Shift::new(i32::try_from(number(&mut words)?)?);
+            answer(rt, laid(rt, setting, &mut words)?)
+        }
+        Some("loading") => {
+            let setting = Loading::new(unsigned(&mut words)?);
+            answer(rt, laid(rt, setting, &mut words)?)
+        }
         Some("piles") => piles(rt, &mut words),
         _ => Err(anyhow!("no such case")),
     }

@@ -6,6 +6,7 @@ use anyhow::{Context, anyhow};
 use basis::interface::Basis;
 use basis::kind::Kind;
 use basis::loading::{Loaded, Loading};
+use basis::setting::Setting;
 use basis::shift::{Shift, Shifted};
 use fault::Fault;
 use std::process::ExitCode;
@@ -14,6 +15,7 @@ use std::{env, fs, io};
 use table::{LONGEST_BOOK, Table};
 use valuation::admission::{LEAST_COLUMN, check_promise};
 use valuation::benefit::Benefit;
+use valuation::promise::Promise;
 use valuation::terms::Terms;
 
 // The ages that are printed: some of working life, both sides of a final age of 65, and the last.
@@ -88,8 +90,8 @@ fn show_reading(rt: &HostRuntime, name: &str, book: &[u8]) -> io::Result<()> {
 
 // Puts a byte of a book in place of another, where the book has it.
 fn damage(book: &mut [u8], place: usize, byte: u8) {
-    if place < book.len() {
-        book[place] = byte;
+    if let Some(old) = book.get_mut(place) {
+        *old = byte;
     }
 }
 
@@ -112,9 +114,8 @@ fn read_amounts(rt: &HostRuntime, words: SplitWhitespace<'_>) -> anyhow::Result<
     for word in words {
         let (times, amount) = word.split_once('*').unwrap_or(("1", word));
         let amount = amount.parse::<u32>()?;
-        for _ in 0..times.parse::<u16>()? {
-            amounts.push(amount)?;
-        }
+        let length = amounts.len().saturating_add(times.parse::<u16>()? as usize);
+        amounts.resize(length, amount)?;
     }
     Ok(amounts)
 }
@@ -127,6 +128,16 @@ struct Asked {
     benefit: Benefit,
     age: u32,
     amounts: Vec<u32>,
+}
+
+impl Asked {
+    fn promise(&self) -> Promise<'_> {
+        Promise {
+            benefit: self.benefit,
+            age: self.age,
+            amounts: self.amounts.as_slice(),
+        }
+    }
 }
 
 // A line `INTEREST INSTALMENTS BENEFIT AGE AMOUNTS`.
@@ -146,24 +157,17 @@ fn read_promise(rt: &HostRuntime, line: &str) -> anyhow::Result<Asked> {
 fn consider<B: Basis>(basis: &B, asked: &Asked) -> Result<(), Fault> {
     let _terms = Terms::new(asked.interest, asked.instalments)?;
     let column = [0u64; LEAST_COLUMN];
-    check_promise(
-        basis,
-        asked.benefit,
-        asked.age,
-        asked.amounts.as_slice(),
-        &column,
-    )
+    check_promise(basis, asked.promise(), &column)
 }
 
 // Its ages and span, and whether it would be taken.
 fn answer_promise<B: Basis>(rt: &HostRuntime, basis: &B, asked: &Asked) -> io::Result<()> {
-    let name = asked.benefit.name();
+    let Promise { benefit, age, .. } = asked.promise();
     let final_age = basis.final_age();
-    let first = asked.benefit.first_age(final_age);
-    let last = asked.benefit.last_age(final_age);
-    let span = asked.benefit.span(final_age, asked.age);
-    let age = asked.age;
-    print!(rt; "{name} from {first} to {last}, at {age} {span} amounts: ")?;
+    let first = benefit.first_age(final_age);
+    let last = benefit.last_age(final_age);
+    let span = benefit.span(final_age, age);
+    print!(rt; "{benefit} from {first} to {last}, at {age} {span} amounts: ")?;
     match consider(basis, asked) {
         Ok(()) => println!(rt; "taken"),
         Err(fault) => println!(rt; "refused {fault}"),

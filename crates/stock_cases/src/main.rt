@@ -5,17 +5,18 @@ use anyhow::{Context, anyhow};
 use basis::loading::Loading;
 use basis::shift::Shift;
 use basis::straight_line::StraightLine;
-use fault::Fault;
+use fault::{Fault, Place};
 use pile::Pile;
 use pile::bottom::Bottom;
 use pile::layer::Layer;
+use std::fmt;
 use std::io::{BufRead, BufReader};
 use std::str::SplitWhitespace;
 use stock::call::{Answer, Call};
-use stock::promise::Promise;
 use stock::stock::Stock;
 use valuation::benefit::Benefit;
 use valuation::pair::Pair;
+use valuation::promise::Promise;
 use valuation::terms::Terms;
 
 // A promise of the input, and the length of the column that is lent for it.
@@ -38,8 +39,40 @@ enum Asked {
     Count,
 }
 
-// The calls by their names, in the order of their ranks.
-const NAMES: [&str; 6] = ["admit", "amend", "release", "promise", "total", "count"];
+// The six calls without their arguments.
+#[derive(Clone, Copy)]
+enum Kind {
+    Admit,
+    Amend,
+    Release,
+    Promise,
+    Total,
+    Count,
+}
+
+impl Kind {
+    const ALL: [Kind; 6] = [
+        Kind::Admit,
+        Kind::Amend,
+        Kind::Release,
+        Kind::Promise,
+        Kind::Total,
+        Kind::Count,
+    ];
+}
+
+impl fmt::Display for Kind {
+    fn fmt<W: fmt::Write>(&self, f: &mut fmt::Formatter<W>) -> fmt::Result {
+        f.pad(match self {
+            Kind::Admit => "admit",
+            Kind::Amend => "amend",
+            Kind::Release => "release",
+            Kind::Promise => "promise",
+            Kind::Total => "total",
+            Kind::Count => "count",
+        })
+    }
+}
 
 // The whole cents below and above the exact value of some promises, how many they are, and their amounts added up.
 #[derive(Clone, Copy)]
@@ -56,8 +89,8 @@ enum Foretold {
     Done,
     Cents(Worth),
     Number(u64),
-    // a fault's number and place
-    Refused(u32, u32, u32),
+    // by the number of its refusal
+    Refused(u32, Place),
 }
 
 #[derive(Drop)]
@@ -76,14 +109,15 @@ struct Session {
 }
 
 // What the calls of one name came to.
-#[derive(Clone, Copy)]
+#[derive(Clone, Copy, Default)]
 struct Tally {
     granted: u32,
     refused: u32,
     held: u32,
 }
 
-#[derive(Clone, Copy)]
+// A tally for each kind of call.
+#[derive(Clone, Copy, Default)]
 struct Report {
     tallies: [Tally; 6],
 }
@@ -150,11 +184,14 @@ fn read_foretold(words: &mut SplitWhitespace<'_>) -> anyhow::Result<Foretold> {
             amounts: number(words)?,
         })),
         Some("number") => Ok(Foretold::Number(number(words)?)),
-        Some("refused") => Ok(Foretold::Refused(
-            small_number(words)?,
-            small_number(words)?,
-            small_number(words)?,
-        )),
+        Some("refused") => {
+            let number = small_number(words)?;
+            let place = Place {
+                first: small_number(words)?,
+                second: small_number(words)?,
+            };
+            Ok(Foretold::Refused(number, place))
+        }
         _ => Err(anyhow!("no such answer")),
     }
 }
@@ -199,14 +236,14 @@ impl Asked {
         }
     }
 
-    fn rank(&self) -> usize {
+    fn kind(&self) -> Kind {
         match self {
-            Asked::Admit(_, _) => 0,
-            Asked::Amend(_, _) => 1,
-            Asked::Release(_) => 2,
-            Asked::Promise(_) => 3,
-            Asked::Total => 4,
-            Asked::Count => 5,
+            Asked::Admit(_, _) => Kind::Admit,
+            Asked::Amend(_, _) => Kind::Amend,
+            Asked::Release(_) => Kind::Release,
+            Asked::Promise(_) => Kind::Promise,
+            Asked::Total => Kind::Total,
+            Asked::Count => Kind::Count,
         }
     }
 }
@@ -227,10 +264,8 @@ impl Foretold {
             (Foretold::Done, Ok(Answer::Done)) => true,
             (Foretold::Cents(worth), Ok(Answer::Cents(pair))) => worth.lies_in(pair),
             (Foretold::Number(foretold), Ok(Answer::Number(number))) => number == foretold,
-            (Foretold::Refused(number, first, second), Err(fault)) => {
-                fault.refusal.number() as u32 == number
-                    && fault.place.first == first
-                    && fault.place.second == second
+            (Foretold::Refused(number, place), Err(fault)) => {
+                fault.refusal.number() as u32 == number && fault.place == place
             }
             _ => false,
         }
@@ -249,9 +284,7 @@ fn answer_to(stock: &mut Stock<Pile>, asked: &Asked) -> Result<Answer, Fault> {
 fn print_answer(rt: &HostRuntime, line: u32, answer: Result<Answer, Fault>) -> anyhow::Result<()> {
     match answer {
         Ok(Answer::Done) => println!(rt; "line {line}: done")?,
-        Ok(Answer::Cents(Pair { lower, upper })) => {
-            println!(rt; "line {line}: {lower} to {upper}")?
-        }
+        Ok(Answer::Cents(pair)) => println!(rt; "line {line}: {pair}")?,
         Ok(Answer::Number(number)) => println!(rt; "line {line}: number {number}")?,
         Err(fault) => println!(rt; "line {line}: refused {fault}")?,
     }
@@ -259,15 +292,6 @@ fn print_answer(rt: &HostRuntime, line: u32, answer: Result<Answer, Fault>) -> a
 }
 
 impl Report {
-    fn new() -> Report {
-        let none = Tally {
-            granted: 0,
-            refused: 0,
-            held: 0,
-        };
-        Report { tallies: [none; 6] }
-    }
-
     // Counts an answer, and prints one that is not as foretold.
     fn hold(
         &mut self,
@@ -276,11 +300,10 @@ impl Report {
         answer: Result<Answer, Fault>,
     ) -> anyhow::Result<()> {
         let held = row.foretold.holds(answer);
-        if let Some(tally) = self.tallies.get_mut(row.asked.rank()) {
-            tally.granted = tally.granted.wrapping_add(answer.is_ok() as u32);
-            tally.refused = tally.refused.wrapping_add(answer.is_err() as u32);
-            tally.held = tally.held.wrapping_add(held as u32);
-        }
+        let tally = &mut self.tallies[row.asked.kind() as usize];
+        tally.granted = tally.granted.wrapping_add(answer.is_ok() as u32);
+        tally.refused = tally.refused.wrapping_add(answer.is_err() as u32);
+        tally.held = tally.held.wrapping_add(held as u32);
         if !held {
             print_answer(rt, row.line, answer)?;
         }
@@ -290,7 +313,7 @@ impl Report {
     fn print(&self, rt: &HostRuntime) -> anyhow::Result<()> {
         let mut all = 0u32;
         let mut all_held = 0u32;
-        for (name, tally) in NAMES.iter().zip(self.tallies.iter()) {
+        for (kind, tally) in Kind::ALL.iter().zip(self.tallies.iter()) {
             let Tally {
                 granted,
                 refused,
@@ -298,7 +321,7 @@ impl Report {
             } = *tally;
             let played = granted.wrapping_add(refused);
             println!(rt;
-                "{name}: {played} played, {granted} granted, {refused} refused, {held} as foretold"
+                "{kind}: {played} played, {granted} granted, {refused} refused, {held} as foretold"
             )?;
             all = all.wrapping_add(played);
             all_held = all_held.wrapping_add(held);
@@ -351,7 +374,7 @@ impl Session {
 }
 
 fn main(rt: HostRuntime) -> anyhow::Result<()> {
-    let mut report = Report::new();
+    let mut report = Report::default();
     let mut session = Session::new(&rt, 65, 0)?;
     let mut line = 0u32;
     for text in BufReader::new(rt.alloc(), rt.stdin())?.lines(rt.alloc()) {

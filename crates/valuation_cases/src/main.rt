@@ -5,7 +5,7 @@ use anyhow::{Context, anyhow};
 use basis::loading::Loading;
 use basis::shift::Shift;
 use basis::straight_line::StraightLine;
-use fault::Fault;
+use fault::{Fault, Place};
 use pile::Pile;
 use pile::bottom::Bottom;
 use pile::layer::Layer;
@@ -15,6 +15,7 @@ use table::Table;
 use valuation::admission::LEAST_COLUMN;
 use valuation::benefit::Benefit;
 use valuation::pair::Pair;
+use valuation::promise::Promise;
 use valuation::terms::Terms;
 use valuation::value::value;
 
@@ -28,7 +29,7 @@ struct Question {
 }
 
 // What the rows of one benefit came to.
-#[derive(Clone, Copy)]
+#[derive(Clone, Copy, Default)]
 struct Tally {
     rows: u32,
     enclosed: u32,
@@ -36,7 +37,7 @@ struct Tally {
 }
 
 // Where the reading is, and what it came to so far.
-#[derive(Clone, Copy)]
+#[derive(Clone, Copy, Default)]
 struct Report {
     line: u32,
     tallies: [Tally; 16],
@@ -113,14 +114,12 @@ fn read_amounts(rt: &HostRuntime, words: &mut SplitWhitespace<'_>) -> anyhow::Re
 fn value_on(pile: &Pile, question: Question, amounts: &[u32]) -> Result<Pair, Fault> {
     let terms = Terms::new(question.interest, question.instalments)?;
     let mut column = [0u64; LEAST_COLUMN];
-    value(
-        pile,
-        terms,
-        question.benefit,
-        question.age,
+    let promise = Promise {
+        benefit: question.benefit,
+        age: question.age,
         amounts,
-        &mut column,
-    )
+    };
+    value(pile, terms, promise, &mut column)
 }
 
 // Whether a gap is at most 3 cents, which is proved, and at most 20 cents and a cent for each 1000 euros, which is owed.
@@ -133,19 +132,6 @@ fn narrow(gap: u64, amounts: &[u32]) -> bool {
 }
 
 impl Report {
-    fn new() -> Report {
-        let none = Tally {
-            rows: 0,
-            enclosed: 0,
-            widest: 0,
-        };
-        Report {
-            line: 0,
-            tallies: [none; 16],
-            refused: 0,
-        }
-    }
-
     fn count(&mut self, benefit: Benefit, gap: u64, enclosed: bool) {
         let tally = &mut self.tallies[benefit as usize];
         tally.rows = tally.rows.wrapping_add(1);
@@ -166,14 +152,14 @@ impl Report {
         let amounts = read_amounts(rt, words)?;
         let line = self.line;
         match value_on(pile, question, amounts.as_slice()) {
-            Ok(Pair { lower, upper }) => {
-                let gap = upper.saturating_sub(lower);
-                let enclosed = lower <= floor
-                    && ceiling <= upper
+            Ok(pair) => {
+                let gap = pair.upper.saturating_sub(pair.lower);
+                let enclosed = pair.lower <= floor
+                    && ceiling <= pair.upper
                     && narrow(gap, amounts.as_slice());
                 self.count(question.benefit, gap, enclosed);
                 if !enclosed {
-                    println!(rt; "line {line}: {lower} to {upper} for {floor} to {ceiling}")?;
+                    println!(rt; "line {line}: {pair} for {floor} to {ceiling}")?;
                 }
             }
             Err(fault) => {
@@ -193,18 +179,16 @@ impl Report {
     ) -> anyhow::Result<()> {
         let question = read_question(words)?;
         let number = small_number(words)?;
-        let first = small_number(words)?;
-        let second = small_number(words)?;
+        let foretold = Place {
+            first: small_number(words)?,
+            second: small_number(words)?,
+        };
         let amounts = read_amounts(rt, words)?;
         let line = self.line;
         match value_on(pile, question, amounts.as_slice()) {
-            Ok(Pair { lower, upper }) => println!(rt; "line {line}: {lower} to {upper}")?,
+            Ok(pair) => println!(rt; "line {line}: {pair}")?,
             Err(fault) => {
-                let place = fault.place;
-                if fault.refusal.number() as u32 == number
-                    && place.first == first
-                    && place.second == second
-                {
+                if fault.refusal.number() as u32 == number && fault.place == foretold {
                     self.refused = self.refused.wrapping_add(1);
                 } else {
                     println!(rt; "line {line}: refused {fault}")?;
@@ -218,13 +202,12 @@ impl Report {
         let mut all = 0u32;
         let mut held = 0u32;
         for (benefit, tally) in Benefit::ALL.iter().zip(self.tallies.iter()) {
-            let name = benefit.name();
             let Tally {
                 rows,
                 enclosed,
                 widest,
             } = *tally;
-            println!(rt; "{name}: {rows} rows, {enclosed} enclosed, widest gap {widest}")?;
+            println!(rt; "{benefit}: {rows} rows, {enclosed} enclosed, widest gap {widest}")?;
             all = all.wrapping_add(rows);
             held = held.wrapping_add(enclosed);
         }
@@ -235,7 +218,7 @@ impl Report {
 }
 
 fn main(rt: HostRuntime) -> anyhow::Result<()> {
-    let mut report = Report::new();
+    let mut report = Report::default();
     let mut pile = Pile::on(rt.alloc(), Bottom::Table(Table::new()));
     for text in rt.lines(rt.alloc()) {
         let text = text?;
