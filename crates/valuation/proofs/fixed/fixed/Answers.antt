@@ -1,6 +1,6 @@
-use Rattle.std.proofs.Common.{◌≡◌, ℕ, ◌+◌, ◌*◌, ◌/◌, ◌%◌, ◌<◌, ◌≤◌, sym, ap, ◌∙◌, mul-le-mul_right, arith, rules}
+use Rattle.std.proofs.Common.{◌≡◌, ℕ, ◌+◌, ◌*◌, ◌/◌, ◌%◌, ◌<◌, sym, ap, ◌∙◌, arith}
 use Rattle.std.proofs.lemmas.Nat.{div-add-mod'}
-use Rattle.std.proofs.Math.Nat.{div-le_of_le-mul, mul-add-div_right}
+use Rattle.std.proofs.Math.Nat.{mul-add-div_right}
 use Rattle.valuation.proofs.Added.{fixed_small}
 use Rattle.valuation.proofs.fixed.fixed.Goals as goal
 
@@ -17,13 +17,3 @@ pub returns-then-d-le2000000 : goal.returns-then-d-le2000000
 returns-then-d-le2000000 c =
     let same = two_steps c.args.n c.args.d c.requires.some in
     record { value = same; below = λ h. omega (arith, same, fixed_small c.args.n c.args.d h) }
-
-pub returns : goal.returns
-returns c = record { value = search rules; below = fixed_small c.args.n c.args.d }
-
-pub overflow_cast-result-4 : goal.overflow_cast-result-4
-overflow_cast-result-4 c =
-    let n = c.args.n in
-    let d = c.args.d in
-    let most : n * 72057594037927936 / d ≤ 255 * 72057594037927936 = div-le_of_le-mul d (omega (arith, mul-le-mul_right 72057594037927936 c.requires.fits)) in
-    omega arith

@@ -1,13 +1,8 @@
 use Rattle.std.proofs.Common.{◌+◌, ◌-◌, ◌*◌, arith}
 use Rattle.valuation.specs.Fixed.{fixed}
 use Rattle.valuation.specs.Rates.{part_den}
-use Rattle.valuation.proofs.Added.{whole_some, loss_small, kept_small, fixed_small, added_step, added_end, added_fits}
+use Rattle.valuation.proofs.Added.{loss_small, kept_small, fixed_small, added_step, added_end, added_fits}
 use Rattle.valuation.proofs.rates.parts_of_year.Goals as goal
-
-pub fixed-loss-requires : goal.fixed-loss-requires
-fixed-loss-requires c =
-    let l = loss_small c.args.interest c.args.t c.loop-m.m c.requires.some c.loop-m-test.true in
-    record { some = whole_some c.args.interest c.args.t c.loop-m.m c.requires.some; fits = omega arith }
 
 pub overflow_add-loss : goal.overflow_add-loss
 overflow_add-loss c =
@@ -18,11 +13,6 @@ overflow_add-loss c =
       added_fits t c.loop-m.m c.loop-m.loss c.fixed-loss.result (λ m. fixed (m * (10000 + i)) (part_den i t m)) c.requires.few c.loop-m-test.true c.fixed-loss.ensures.value
           (λ k l. fixed_small (k * (10000 + i)) (part_den i t k) (loss_small i t k c.requires.some l)) c.loop-m.invariant.0,
     )
-
-pub fixed-rest-requires : goal.fixed-rest-requires
-fixed-rest-requires c =
-    let l = kept_small c.args.interest c.args.t c.loop-m.m c.requires.some in
-    record { some = whole_some c.args.interest c.args.t c.loop-m.m c.requires.some; fits = omega arith }
 
 pub overflow_add-rest : goal.overflow_add-rest
 overflow_add-rest c =

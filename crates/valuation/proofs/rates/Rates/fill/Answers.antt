@@ -31,8 +31,3 @@ loop-age-preserved g c =
     let next = next_value f rates.interest rates.instalments stream.population (level_share f rates.interest rates.instalments stream.population stream.level) k c.loop-age.later c.level_share-share.result c.goes_on-goes_on.result c.product.result
     (omega arith) (omega arith) c.level_share-share.ensures c.goes_on-goes_on.ensures.value c.product.ensures.value c.loop-age.invariant.here in
     down_more _ c.loop-age.part k c.loop-age.later _ (omega arith) (omega arith) next c.loop-age.invariant
-
-pub returns : goal.returns
-returns g c =
-    let inv = c.loop-age.invariant in
-    (inv.long, λ x l. inv.done x (omega arith) l)

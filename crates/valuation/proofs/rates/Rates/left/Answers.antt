@@ -1,5 +1,5 @@
 use Rattle.std.proofs.Common.{refl, ap, ◌∙◌}
-use Rattle.basis.specs.declared.kind.Kind.TheVariants.{Married}
+use Rattle.basis.specs.declared.kind.Kind.TheVariants.{Married, SpouseAge}
 use Rattle.valuation.specs.Rates.{chance_number}
 use Rattle.valuation.specs.Pair.{left_number, wid_number}
 use Rattle.valuation.proofs.Added.{same_product}
@@ -9,5 +9,5 @@ pub returns : goal.returns
 unfolding left_number
 returns g c =
     let f = g.B.Basis.figures c.args.basis.now in
-    same_product c.product.result _ _ (chance_number (f.figure Married c.args.age)) _ _ c.product.ensures.value (c.number.ensures.value ∙ ap chance_number c.of.ensures)
-    (c.wid.ensures ∙ ap (wid_number f c.args.self.now.interest c.args.self.now.instalments) c.figure.ensures) refl
+    same_product c.product.result c.number.result c.wid.result (chance_number (f.figure Married c.args.age)) (wid_number f c.args.self.now.interest c.args.self.now.instalments (f.figure SpouseAge c.args.age)) _ c.product.ensures.value (◌∙◌ {b = chance_number c.of.result.millionths} c.number.ensures.value (ap chance_number c.of.ensures))
+    (◌∙◌ {b = wid_number f c.args.self.now.interest c.args.self.now.instalments c.figure.result} c.wid.ensures (ap (wid_number f c.args.self.now.interest c.args.self.now.instalments) c.figure.ensures)) refl

@@ -35,6 +35,6 @@ returns g c =
     let x = c.args.age in
     let next = c.value_at-next.ensures (level_of f i t InvalidDeath Widows) c.requires.later (level_end f i t InvalidDeath (level_share f i t InvalidDeath Widows)) in
     let later = same_product c.product-later.result _ _ (to_next_year f i t InvalidDeath x) (level_of f i t InvalidDeath Widows (x + 1)) _ c.product-later.ensures.value c.to_next_year.ensures.value next refl in
-    let same-year = same_product c.product-same_year.result _ _ (sooner_number (f.figure InvalidDeath x)) (left_number f i t x) _ c.product-same_year.ensures.value (c.sooner.ensures.value ∙ ap sooner_number c.of.ensures) c.left.ensures refl in
-    same_product c.product.result _ _ (chance_number (f.figure Invalidity x)) _ _ c.product.ensures.value (c.number.ensures.value ∙ ap chance_number c.of-2.ensures)
+    let same-year = same_product c.product-same_year.result _ _ (sooner_number (f.figure InvalidDeath x)) (left_number f i t x) _ c.product-same_year.ensures.value (◌∙◌ {b = sooner_number c.of.result.millionths} c.sooner.ensures.value (ap sooner_number c.of.ensures)) c.left.ensures refl in
+    same_product c.product.result _ _ (chance_number (f.figure Invalidity x)) _ _ c.product.ensures.value (◌∙◌ {b = chance_number c.of-2.result.millionths} c.number.ensures.value (ap chance_number c.of-2.ensures))
     (ap (λ n. n + c.product-same_year.result) later ∙ ap (λ n. product (to_next_year f i t InvalidDeath x) (level_of f i t InvalidDeath Widows (x + 1)) + n) same-year) refl

@@ -1,6 +1,6 @@
 use Rattle.std.proofs.Common.{refl, ap, ◌∙◌}
 use Rattle.valuation.specs.Rates.{chance_number}
-use Rattle.valuation.specs.Pair.{widowed_number}
+use Rattle.valuation.specs.Pair.{left_number, widowed_number}
 use Rattle.valuation.proofs.Added.{same_product}
 use Rattle.valuation.proofs.rates.Rates.widowed.Goals as goal
 
@@ -8,4 +8,4 @@ pub returns : goal.returns
 unfolding widowed_number
 returns g c =
     let f = g.B.Basis.figures c.args.basis.now in
-    same_product c.product.result _ _ (chance_number (f.figure c.args.kind c.args.age)) _ _ c.product.ensures.value (c.number.ensures.value ∙ ap chance_number c.of.ensures) c.left.ensures refl
+    same_product c.product.result c.number.result c.left.result (chance_number (f.figure c.args.kind c.args.age)) (left_number f c.args.self.now.interest c.args.self.now.instalments c.args.age) _ c.product.ensures.value (◌∙◌ {b = chance_number c.of.result.millionths} c.number.ensures.value (ap chance_number c.of.ensures)) c.left.ensures refl
