@@ -43,7 +43,7 @@ fn put_contents(buffer: &mut [u8], final_age: u32)
 }
 
 fn put_body(buffer: &mut [u8], rows: &Rows, kind: Kind)
-    requires { (rows.now.final_age ≤ 80) × (book_length rows.now.final_age ≤ length buffer.old) }
+    requires { book_length rows.now.final_age ≤ length buffer.old }
     ensures { buffer.new ≡ placed buffer.old (body_place rows.now.final_age kind) (body_bytes (tabled rows.now) kind) }
 {
     let place = body_place(kind, rows.final_age);
@@ -57,7 +57,7 @@ fn put_body(buffer: &mut [u8], rows: &Rows, kind: Kind)
 }
 
 fn put_bodies(buffer: &mut [u8], rows: &Rows)
-    requires { (rows.now.final_age ≤ 80) × (book_length rows.now.final_age ≤ length buffer.old) }
+    requires { book_length rows.now.final_age ≤ length buffer.old }
     ensures { buffer.new ≡ placed buffer.old 37 (bodies_bytes (tabled rows.now)) }
 {
     for kind in Kind::ALL {
@@ -67,7 +67,7 @@ fn put_bodies(buffer: &mut [u8], rows: &Rows)
 
 // Puts the book of the rows at the buffer's beginning.
 pub(crate) fn put_book(buffer: &mut [u8], rows: &Rows)
-    requires { (rows.now.final_age ≤ 80) × (book_length rows.now.final_age ≤ length buffer.old) }
+    requires { book_length rows.now.final_age ≤ length buffer.old }
     ensures { buffer.new ≡ written (tabled rows.now) buffer.old }
 {
     put(buffer, 0, &[EDITION, rows.final_age as u8]);

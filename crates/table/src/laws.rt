@@ -1,5 +1,5 @@
 // Whether rows obey the laws of a basis: the first place where they do not, by the order of the checks.
-ghost use Rattle.std.specs.Prelude.{◌≡◌, ◌≤◌};
+ghost use Rattle.std.specs.Prelude.{◌≡◌};
 ghost use Rattle.table.specs.Book.{list_fault, limit_fault, exits_fault, seam_fault, open_end_fault, figures_fault};
 ghost use Rattle.fault.specs.Faults.{Outcome};
 ghost use Rattle.table.specs.Table.{tabled};
@@ -9,7 +9,6 @@ use basis::kind::{AGES, CERTAIN, Kind, LAST_AGE};
 use fault::{Fault, Refusal};
 
 pub(crate) fn check_figures(rows: &Rows) -> Result<(), Fault>
-    requires { rows.now.final_age ≤ 80 }
     ensures { Outcome result (figures_fault (tabled rows.now)) (λ _. Unit {0}) }
 {
     check_limits(rows)?;
@@ -19,7 +18,6 @@ pub(crate) fn check_figures(rows: &Rows) -> Result<(), Fault>
 }
 
 fn check_limits(rows: &Rows) -> Result<(), Fault>
-    requires { rows.now.final_age ≤ 80 }
     ensures { Outcome result (limit_fault (tabled rows.now)) (λ _. Unit {0}) }
 {
     for kind in Kind::ALL {
@@ -29,7 +27,6 @@ fn check_limits(rows: &Rows) -> Result<(), Fault>
 }
 
 fn check_list(rows: &Rows, kind: Kind) -> Result<(), Fault>
-    requires { rows.now.final_age ≤ 80 }
     ensures { Outcome result (list_fault (tabled rows.now) kind) (λ _. Unit {0}) }
 {
     for age in 0..kind.count(rows.final_age) {
@@ -41,7 +38,6 @@ fn check_list(rows: &Rows, kind: Kind) -> Result<(), Fault>
 }
 
 fn check_exits(rows: &Rows) -> Result<(), Fault>
-    requires { rows.now.final_age ≤ 80 }
     ensures { Outcome result (exits_fault (tabled rows.now)) (λ _. Unit {0}) }
 {
     for age in 0..rows.final_age {
@@ -54,7 +50,6 @@ fn check_exits(rows: &Rows) -> Result<(), Fault>
 }
 
 fn check_seam(rows: &Rows) -> Result<(), Fault>
-    requires { rows.now.final_age ≤ 80 }
     ensures { Outcome result (seam_fault (tabled rows.now)) (λ _. Unit {0}) }
 {
     for age in rows.final_age..AGES {
@@ -67,7 +62,6 @@ fn check_seam(rows: &Rows) -> Result<(), Fault>
 
 // Of the whole population's last death the seam has told already.
 fn check_open_end(rows: &Rows) -> Result<(), Fault>
-    requires { rows.now.final_age ≤ 80 }
     ensures { Outcome result (open_end_fault (tabled rows.now)) (λ _. Unit {0}) }
 {
     if rows.figure(Kind::InvalidDeath, LAST_AGE) != CERTAIN {

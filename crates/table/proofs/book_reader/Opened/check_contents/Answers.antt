@@ -3,7 +3,7 @@ use Rattle.std.proofs.lemmas.Result.{err_from_is_err_and}
 use Rattle.fault.specs.Faults.{first_below}
 use Rattle.table.specs.Book.{entry_fault, kind_at}
 use Rattle.fault.proofs.Firsts.{first_none, first_more, first_found}
-use Rattle.table.proofs.book_reader.check_contents.Goals as goal
+use Rattle.table.proofs.book_reader.Opened.check_contents.Goals as goal
 
 pub loop-kind-init : goal.loop-kind-init
 loop-kind-init c = first_none _
@@ -19,4 +19,4 @@ returns-in_err-check_entry c =
 pub returns : goal.returns
 returns c =
     let all : c.loop-kind.kind-index ≡ 7 = omega arith in
-    (subst (λ n. first_below n (λ i. entry_fault c.args.book.now c.args.final_age (kind_at i)) ≡ None) all c.loop-kind.invariant, tt)
+    (subst (λ n. first_below n (λ i. entry_fault c.args.self.now.book.now c.args.self.now.final_age (kind_at i)) ≡ None) all c.loop-kind.invariant, tt)
