@@ -15,30 +15,24 @@ fn put(buffer: &mut [u8], place: usize, bytes: &[u8])
     buffer[place..place + bytes.len()].copy_from_slice(bytes);
 }
 
-fn put_entry(buffer: &mut [u8], final_age: u32, kind: Kind)
-    requires { (final_age ≤ 80) × (37 ≤ length buffer.old) }
-    ensures { buffer.new ≡ placed buffer.old (entry_place kind) (entry_bytes final_age kind) }
+fn put_entry(buffer: &mut [u8], rows: &Rows, kind: Kind)
+    requires { book_length rows.now.final_age ≤ length buffer.old }
+    ensures { buffer.new ≡ placed buffer.old (entry_place kind) (entry_bytes rows.now.final_age kind) }
 {
     let place = entry_place(kind);
+    let count = kind.count(rows.final_age) as u16;
+    let body = body_place(kind, rows.final_age) as u16;
     put(buffer, place, &[kind.rank()]);
-    put(
-        buffer,
-        place + 1,
-        &(kind.count(final_age) as u16).to_be_bytes(),
-    );
-    put(
-        buffer,
-        place + 3,
-        &(body_place(kind, final_age) as u16).to_be_bytes(),
-    );
+    put(buffer, place + 1, &count.to_be_bytes());
+    put(buffer, place + 3, &body.to_be_bytes());
 }
 
-fn put_contents(buffer: &mut [u8], final_age: u32)
-    requires { (final_age ≤ 80) × (37 ≤ length buffer.old) }
-    ensures { buffer.new ≡ placed buffer.old 2 (contents_bytes final_age) }
+fn put_contents(buffer: &mut [u8], rows: &Rows)
+    requires { book_length rows.now.final_age ≤ length buffer.old }
+    ensures { buffer.new ≡ placed buffer.old 2 (contents_bytes rows.now.final_age) }
 {
     for kind in Kind::ALL {
-        put_entry(buffer, final_age, kind);
+        put_entry(buffer, rows, kind);
     }
 }
 
@@ -71,6 +65,6 @@ pub(crate) fn put_book(buffer: &mut [u8], rows: &Rows)
     ensures { buffer.new ≡ written (tabled rows.now) buffer.old }
 {
     put(buffer, 0, &[EDITION, rows.final_age as u8]);
-    put_contents(buffer, rows.final_age);
+    put_contents(buffer, rows);
     put_bodies(buffer, rows);
 }

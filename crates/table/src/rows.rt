@@ -43,12 +43,6 @@ impl Rows {
         Rows::told(basis.final_age(), |kind, age| basis.figure(kind, age))
     }
 
-    pub(crate) fn row(&self, kind: Kind) -> &[u32; ROW]
-        ensures { result.now ≡ row_of self.now kind }
-    {
-        &self.lists[kind as usize]
-    }
-
     // The list's figure at an age, 0 at an age that the list has not.
     pub(crate) fn figure(&self, kind: Kind, age: u32) -> u32
         ensures { result ≡ (tabled self.now).figure kind age }
@@ -56,6 +50,6 @@ impl Rows {
         if age >= kind.count(self.final_age) {
             return 0;
         }
-        self.row(kind)[age as usize]
+        self.lists[kind as usize][age as usize]
     }
 }
