@@ -1,7 +1,7 @@
 // Whether rows obey the laws of a basis: the first place where they do not, by the order of the checks.
-ghost use Rattle.std.specs.Prelude.{◌≡◌, ℕ, ◌<◌, ◌≤◌, Bool, Option};
-ghost use Rattle.table.specs.Book.{list_fault, limit_fault, exits_fault, seam_fault, open_end_fault, figures_fault};
-ghost use Rattle.fault.specs.Faults.{Outcome, fault, first_below, refuse_if};
+ghost use Rattle.std.specs.Prelude.{◌≡◌, ℕ, Option};
+ghost use Rattle.table.specs.Book.{ChecksAges, list_fault, limit_fault, exits_fault, seam_fault, open_end_fault, figures_fault};
+ghost use Rattle.fault.specs.Faults.{Outcome, fault, first_below};
 ghost use Rattle.basis.specs.Figures.{rank};
 ghost use Rattle.table.specs.Table.{tabled};
 
@@ -67,7 +67,7 @@ fn refuse_first<F: Fn(u32) -> bool>(
     breaks: F,
 ) -> Result<(), Fault>
     requires { F.IsAlwaysCallable breaks }
-    ensures { (check : ℕ → Option Fault) → ((x : ℕ) → x < ages.start → check x ≡ None) → ((x : ℕ) (broken : Bool) → ages.start ≤ x → x < ages.end → F.post breaks x broken → check x ≡ refuse_if broken (fault refusal (rank kind) x)) → Outcome result (first_below ages.end check) (λ _. Unit {0}) }
+    ensures { (check : ℕ → Option Fault) → ChecksAges ages.start ages.end (F.post breaks) (fault refusal (rank kind)) check → Outcome result (first_below ages.end check) (λ _. Unit {0}) }
 {
     match ages.find(|age| breaks(*age)) {
         Some(age) => Err(Fault::new(refusal, kind.rank() as u32, age)),
