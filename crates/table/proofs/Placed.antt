@@ -1,7 +1,7 @@
 -- Bytes put into a buffer one after another. Assumes nothing.
 use Rattle.std.proofs.Common.{◌≡◌, ℕ, zero, suc, ◌+◌, ◌*◌, ◌<◌, ◌≤◌, List, [], ◌∷◌, ◌++◌, length, take, drop, sym, refl, ap, ◌∙◌, add-one, arith}
 use borrow.Rule.Slice.PartMut.{put_mid}
-use Rattle.std.proofs.lemmas.List.{append_assoc, length-append, length-take, length-drop, length-take-le, take-append-drop, take_at, drop_at, drop-drop}
+use Rattle.std.proofs.lemmas.List.{append_assoc, length-append, length-take-le, take-append-drop, take_at, drop_at, drop-drop}
 use Rattle.basis.specs.declared.kind.Kind.{Kind}
 use Rattle.basis.specs.declared.kind.Kind.TheVariants.{Invalidity, ActiveDeath, InvalidDeath, PopulationDeath, WidowDeath, Married, SpouseAge}
 use Rattle.basis.specs.Figures.{Figures, count, rank}
@@ -12,9 +12,6 @@ pub placed_part : (p n : ℕ) (buffer part bytes : List ℕ) → part ≡ bytes 
 placed_part p n buffer part bytes same long =
     ap (λ ys. take p buffer ++ (ys ++ drop n (drop p buffer))) same
     ∙ ap (λ rest. take p buffer ++ (bytes ++ rest)) (drop-drop n p buffer ∙ ap (λ m. drop (p + m) buffer) long)
-
-pub length_placed : (buffer : List ℕ) (p : ℕ) (bytes : List ℕ) → p + length bytes ≤ length buffer → length (placed buffer p bytes) ≡ length buffer
-length_placed buffer p bytes fits = simp (length-append, length-take, length-drop) (omega arith)
 
 pub placed_none : (buffer : List ℕ) (p : ℕ) → placed buffer p [] ≡ buffer
 placed_none buffer p = ap (λ m. take p buffer ++ drop m buffer) (omega arith) ∙ take-append-drop p buffer

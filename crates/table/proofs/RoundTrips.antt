@@ -1,6 +1,6 @@
 -- A book read and written out is the same bytes; figures written out and read are the same figures. Assumes nothing.
-use Rattle.std.proofs.Common.{◌≡◌, ℕ, zero, suc, ◌+◌, ◌*◌, ◌<◌, ◌≤◌, true, ◌&&◌, ◌||◌, eqb, ltb, List, [], ◌∷◌, ◌++◌, length, get_or, take, drop, IfErr, None, Ok, Err, Result, sym, refl, ap, ◌∙◌, ⊎_elim, arith, take-add}
-use Rattle.std.proofs.lemmas.List.{length-append, length-take-le, length-drop, take_at, drop_at, drop-drop, take_all, drop_more, get_or-take, get_or-drop}
+use Rattle.std.proofs.Common.{◌≡◌, ℕ, zero, suc, ◌+◌, ◌-◌, ◌*◌, ◌<◌, ◌≤◌, true, ◌&&◌, ◌||◌, eqb, ltb, List, [], ◌∷◌, ◌++◌, length, get_or, take, drop, IfErr, None, Ok, Err, Result, sym, refl, ap, ◌∙◌, ⊎_elim, arith, take-add}
+use Rattle.std.proofs.lemmas.List.{length-append, length-take, length-take-le, get_or_past, drop-take, take-take, length-drop, take_at, drop_at, drop-drop, take_all, drop_more, get_or-take, get_or-drop}
 use Rattle.std.proofs.lemmas.Bool.{cases_lt, le-ltb, eqb-true, eq-eqb, and_parts, and_from, not-false, not_from_true, or_from}
 use Rattle.fault.specs.declared.Fault.{Fault}
 use Rattle.basis.specs.declared.kind.Kind.{Kind}
@@ -8,7 +8,8 @@ use Rattle.fault.specs.Faults.{Outcome}
 use Rattle.basis.specs.Figures.{Figures, Lawful, count, rank}
 use Rattle.table.specs.Book.{be16, be32, bytes16, bytes32, kind_at, entry_place, entry_bytes, body_place, book_length, in_order, contents_bytes, body_bytes, bodies_bytes, encoded, decoded, decoded_by, entry_right, entry_fault, opening_fault, contents_fault, length_fault, book_fault, figures_fault, buffer_fault, rewrite_fault, written}
 use Rattle.table.proofs.Books.{body_within}
-use Rattle.table.proofs.Digits.{digits16, digits32, whole16, whole32}
+use Rattle.std.proofs.lemmas.Nat.{be_bytes_2, be_bytes_4, from_be_bytes-to_be_bytes_2, from_be_bytes-to_be_bytes_4}
+use Rattle.std.specs.Int.{w16, w32, from_be_bytes}
 use Rattle.fault.proofs.Firsts.{first_of_none, first_passes, first_passed, refuse_none, none_refuse, passed_on}
 use Rattle.table.proofs.Lawfulness.{each_kind, lawful_passes}
 use Rattle.basis.specs.Layered.{million}
@@ -81,20 +82,38 @@ unfolding total
 bodies_total z = omega (arith, body_total z 6 (omega arith))
 
 -- Numbers as pieces.
-first_two : (p : ℕ) (b : List ℕ) → p + 2 ≤ length b → piece p 2 b ≡ get_or b p 0 ∷ get_or b (p + 1) 0 ∷ []
-first_two p b fits =
-    ap (take 2) (drop_more b p 0 (omega arith) ∙ ap (λ xs. get_or b p 0 ∷ xs) (drop_more b (p + 1) 0 (omega arith)))
+at_zero : (b : List ℕ) (p : ℕ) → get_or b (p + 0) 0 ≡ get_or b p 0
+at_zero b p = ap (λ q. get_or b q 0) (omega arith)
 
-first_four : (p : ℕ) (b : List ℕ) → p + 4 ≤ length b → piece p 4 b ≡ get_or b p 0 ∷ get_or b (p + 1) 0 ∷ get_or b (p + 2) 0 ∷ get_or b (p + 3) 0 ∷ []
-first_four p b fits =
-    piece_join p 2 2 b ∙ ap (λ xs. xs ++ piece (p + 2) 2 b) (first_two p b (omega arith))
-    ∙ ap (λ xs. (get_or b p 0 ∷ get_or b (p + 1) 0 ∷ []) ++ xs) (first_two (p + 2) b (omega arith) ∙ ap (λ q. get_or b (p + 2) 0 ∷ get_or b q 0 ∷ []) (omega arith))
+small_piece : (p n : ℕ) (b : List ℕ) → ((i : ℕ) → get_or b i 0 < 256) → (i : ℕ) → get_or (piece p n b) i 0 < 256
+small_piece p n b small i =
+    ⊎_elim (λ l. omega (arith, piece_at p n i b l, small (p + i)))
+    (λ past. omega (arith, get_or_past (piece p n b) i 0 (omega (arith, length-take n (drop p b)))))
+    (cases_lt i n)
+
+-- a piece of a piece
+piece_within : (p n i m : ℕ) (b : List ℕ) → i + m ≤ n → piece i m (piece p n b) ≡ piece (p + i) m b
+piece_within p n i m b fits =
+    let parts : n ≡ i + (n - i) = omega arith in
+    ap (λ j. piece i m (piece p j b)) parts ∙ ap (take m) (drop-take i (n - i) (drop p b)) ∙ take-take m (n - i) (drop i (drop p b)) (omega arith) ∙ ap (take m) (drop-drop i p b)
+
+be16_piece : (b : List ℕ) (p : ℕ) → be16 b p ≡ from_be_bytes w16 (piece p 2 b)
+be16_piece b p = omega (arith, at_zero b p, piece_at p 2 0 b, piece_at p 2 1 b)
+
+be32_piece : (b : List ℕ) (p : ℕ) → be32 b p ≡ from_be_bytes w32 (piece p 4 b)
+be32_piece b p = omega (arith, at_zero b p, piece_at p 4 0 b, piece_at p 4 1 b, piece_at p 4 2 b, piece_at p 4 3 b)
 
 read16 : (b : List ℕ) (p : ℕ) → ((i : ℕ) → get_or b i 0 < 256) → p + 2 ≤ length b → bytes16 (be16 b p) ≡ piece p 2 b
-read16 b p small fits = digits16 (get_or b p 0) (get_or b (p + 1) 0) (small p) (small (p + 1)) ∙ sym (first_two p b fits)
+read16 b p small fits = be_bytes_2 (piece p 2 b) (be16 b p) (length_piece p 2 b fits) (small_piece p 2 b small) (be16_piece b p)
 
 read32 : (b : List ℕ) (p : ℕ) → ((i : ℕ) → get_or b i 0 < 256) → p + 4 ≤ length b → bytes32 (be32 b p) ≡ piece p 4 b
-read32 b p small fits = digits32 (get_or b p 0) (get_or b (p + 1) 0) (get_or b (p + 2) 0) (get_or b (p + 3) 0) (small p) (small (p + 1)) (small (p + 2)) (small (p + 3)) ∙ sym (first_four p b fits)
+read32 b p small fits = be_bytes_4 (piece p 4 b) (be32 b p) (length_piece p 4 b fits) (small_piece p 4 b small) (be32_piece b p)
+
+write16 : (b : List ℕ) (p n : ℕ) → n < 65536 → bytes16 n ≡ piece p 2 b → be16 b p ≡ n
+write16 b p n small e = be16_piece b p ∙ ap (from_be_bytes w16) (sym e) ∙ from_be_bytes-to_be_bytes_2 n small
+
+write32 : (b : List ℕ) (p n : ℕ) → n < 4294967296 → bytes32 n ≡ piece p 4 b → be32 b p ≡ n
+write32 b p n small e = be32_piece b p ∙ ap (from_be_bytes w32) (sym e) ∙ from_be_bytes-to_be_bytes_4 n small
 
 -- A book that passes its checks is written out as the same bytes.
 first_one : (p : ℕ) (b : List ℕ) → p + 1 ≤ length b → piece p 1 b ≡ get_or b p 0 ∷ []
@@ -164,21 +183,6 @@ encoded_decoded b small none =
     ∙ sym whole
 
 -- The book of lawful figures passes its checks and tells the same figures.
-at_zero : (b : List ℕ) (p : ℕ) → get_or b (p + 0) 0 ≡ get_or b p 0
-at_zero b p = ap (λ q. get_or b q 0) (omega arith)
-
-write16 : (b : List ℕ) (p n : ℕ) → n < 65536 → get_or b p 0 ≡ get_or (bytes16 n) 0 0 → get_or b (p + 1) 0 ≡ get_or (bytes16 n) 1 0 → be16 b p ≡ n
-write16 b p n small high low = ap (λ x. x * 256 + get_or b (p + 1) 0) high ∙ ap (λ x. get_or (bytes16 n) 0 0 * 256 + x) low ∙ whole16 n small
-
-write32 : (b : List ℕ) (p n : ℕ) → n < 4294967296 → bytes32 n ≡ piece p 4 b → be32 b p ≡ n
-write32 b p n small e =
-    let at : (i : ℕ) → i < 4 → get_or b (p + i) 0 ≡ get_or (bytes32 n) i 0 = λ i l. sym (piece_at p 4 i b l) ∙ ap (λ xs. get_or xs i 0) (sym e) in
-    ap (λ x. x * 16777216 + get_or b (p + 1) 0 * 65536 + get_or b (p + 2) 0 * 256 + get_or b (p + 3) 0) (sym (at_zero b p) ∙ at 0 (omega arith))
-    ∙ ap (λ x. get_or (bytes32 n) 0 0 * 16777216 + x * 65536 + get_or b (p + 2) 0 * 256 + get_or b (p + 3) 0) (at 1 (omega arith))
-    ∙ ap (λ x. get_or (bytes32 n) 0 0 * 16777216 + get_or (bytes32 n) 1 0 * 65536 + x * 256 + get_or b (p + 3) 0) (at 2 (omega arith))
-    ∙ ap (λ x. get_or (bytes32 n) 0 0 * 16777216 + get_or (bytes32 n) 1 0 * 65536 + get_or (bytes32 n) 2 0 * 256 + x) (at 3 (omega arith))
-    ∙ whole32 n small
-
 entry_at : (f : Figures) (i : ℕ) → i < 7 → entry_bytes f.final_age (kind_at i) ≡ piece (entry_place (kind_at i)) 5 (encoded f)
 entry_at f i l =
     let z = f.final_age in
@@ -194,11 +198,11 @@ entry_right_is f i small l =
     let b = encoded f in
     let k = kind_at i in
     let p = entry_place k in
-    let at : (j : ℕ) → j < 5 → get_or b (p + j) 0 ≡ get_or (entry_bytes z k) j 0 = λ j m. sym (piece_at p 5 j b m) ∙ ap (λ xs. get_or xs j 0) (sym (entry_at f i l)) in
-    let after : (q r : ℕ) → q ≡ r → get_or b q 0 ≡ get_or b r 0 = λ q r e. ap (λ n. get_or b n 0) e in
-    let counted : be16 b (p + 1) ≡ count z k = write16 b (p + 1) (count z k) (omega (arith, count_most z k small)) (at 1 (omega arith)) (after (p + 1 + 1) (p + 2) (omega arith) ∙ at 2 (omega arith)) in
-    let placed : be16 b (p + 3) ≡ body_place z k = write16 b (p + 3) (body_place z k) (omega (arith, body_within z k)) (at 3 (omega arith)) (after (p + 3 + 1) (p + 4) (omega arith) ∙ at 4 (omega arith)) in
-    and_from _ _ (eq-eqb _ _ (sym (at_zero b p) ∙ at 0 (omega arith))) (and_from _ _ (eq-eqb _ _ counted) (eq-eqb _ _ placed))
+    let whole = entry_at f i l in
+    let ranked : get_or b p 0 ≡ rank k = sym (at_zero b p) ∙ sym (piece_at p 5 0 b (omega arith)) ∙ ap (λ xs. get_or xs 0 0) (sym whole) in
+    let counted : be16 b (p + 1) ≡ count z k = write16 b (p + 1) (count z k) (omega (arith, count_most z k small)) (ap (piece 1 2) whole ∙ piece_within p 5 1 2 b (omega arith)) in
+    let placed : be16 b (p + 3) ≡ body_place z k = write16 b (p + 3) (body_place z k) (omega (arith, body_within z k)) (ap (piece 3 2) whole ∙ piece_within p 5 3 2 b (omega arith)) in
+    and_from _ _ (eq-eqb _ _ ranked) (and_from _ _ (eq-eqb _ _ counted) (eq-eqb _ _ placed))
 
 body_at : (f : Figures) (i : ℕ) → i < 7 → body_bytes f (kind_at i) ≡ piece (body_place f.final_age (kind_at i)) (4 * count f.final_age (kind_at i)) (encoded f)
 body_at f i l =

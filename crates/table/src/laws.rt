@@ -31,11 +31,12 @@ fn check_limits(rows: &Rows) -> Result<(), Fault>
 fn check_list(rows: &Rows, kind: Kind) -> Result<(), Fault>
     ensures { Outcome result (list_fault (tabled rows.now) kind) (λ _. Unit {0}) }
 {
+    let ages = 0..kind.count(rows.final_age);
     refuse_first(
         Refusal::Figure,
         kind,
-        0..kind.count(rows.final_age),
-        |age| { rows.figure(kind, age) > kind.limit() },
+        ages,
+        |age| rows.figure(kind, age) > kind.limit(),
     )
 }
 
@@ -51,11 +52,12 @@ fn check_exits(rows: &Rows) -> Result<(), Fault>
 fn check_seam(rows: &Rows) -> Result<(), Fault>
     ensures { Outcome result (seam_fault (tabled rows.now)) (λ _. Unit {0}) }
 {
+    let ages = rows.final_age..AGES;
     refuse_first(
         Refusal::Seam,
         Kind::InvalidDeath,
-        rows.final_age..AGES,
-        |age| { rows.figure(Kind::InvalidDeath, age) != rows.figure(Kind::PopulationDeath, age) },
+        ages,
+        |age| rows.figure(Kind::InvalidDeath, age) != rows.figure(Kind::PopulationDeath, age),
     )
 }
 
