@@ -1,4 +1,5 @@
 pub mod Books
+pub mod Exits
 pub mod Filled
 pub mod Lawfulness
 pub mod Placed

@@ -1,17 +1,10 @@
 -- Bytes put into a buffer one after another. Assumes nothing.
 use Rattle.std.proofs.Common.{◌≡◌, ℕ, zero, suc, ◌+◌, ◌*◌, ◌<◌, ◌≤◌, List, [], ◌∷◌, ◌++◌, length, take, drop, sym, refl, ap, ◌∙◌, add-one, arith}
-use borrow.Rule.Slice.PartMut.{put_mid}
 use Rattle.std.proofs.lemmas.List.{append_assoc, length-append, length-take-le, take-append-drop, take_at, drop_at, drop-drop}
 use Rattle.basis.specs.declared.kind.Kind.{Kind}
 use Rattle.basis.specs.declared.kind.Kind.TheVariants.{Invalidity, ActiveDeath, InvalidDeath, PopulationDeath, WidowDeath, Married, SpouseAge}
 use Rattle.basis.specs.Figures.{Figures, count, rank}
 use Rattle.table.specs.Book.{placed, in_order, kind_at, entry_bytes, entry_place, body_bytes, body_place, bytes16, bytes32, book_length, contents_bytes, bodies_bytes, encoded, written}
-
--- a write to a part of the buffer is such a placing
-pub placed_part : (p n : ℕ) (buffer part bytes : List ℕ) → part ≡ bytes → n ≡ length bytes → put_mid p n buffer part ≡ placed buffer p bytes
-placed_part p n buffer part bytes same long =
-    ap (λ ys. take p buffer ++ (ys ++ drop n (drop p buffer))) same
-    ∙ ap (λ rest. take p buffer ++ (bytes ++ rest)) (drop-drop n p buffer ∙ ap (λ m. drop (p + m) buffer) long)
 
 pub placed_none : (buffer : List ℕ) (p : ℕ) → placed buffer p [] ≡ buffer
 placed_none buffer p = ap (λ m. take p buffer ++ drop m buffer) (omega arith) ∙ take-append-drop p buffer
