@@ -1,5 +1,5 @@
 -- What leaves a loop of checks at its first fault. Assumes nothing.
-use Rattle.std.proofs.Common.{◌≡◌, ℕ, ◌<◌, Some, Option, Result}
+use Rattle.std.proofs.Common.{◌≡◌, Some, Option, Result}
 use Rattle.std.specs.Result.{IsErrAnd}
 use Rattle.std.proofs.lemmas.Result.{err_from_is_err_and}
 use Rattle.fault.specs.declared.Fault.{Fault}

@@ -11,7 +11,7 @@ use Rattle.table.specs.Table.{row_of, tabled}
 pub tabled_is : (f : Figures) (r : Rows) → Ended f → r.final_age ≡ f.final_age → ((k : Kind) (x : ℕ) → x < 121 → get_or (row_of r k) x 0 ≡ f.figure k x) → tabled r ≡ f
 tabled_is f r ended aged each =
     ap (λ z. listed z (λ k x. get_or (row_of r k) x 0)) aged
-    ∙ listed_is f (λ k x. get_or (row_of r k) x 0) ended (λ k x l. each k x (omega (arith, count_most f.final_age k, r.young)))
+    ∙ listed_is f (λ k x. get_or (row_of r k) x 0) ended (λ k x l. each k x (omega (arith, count_most f.final_age k, r.young_enough)))
 
 -- the first i rows are filled, and n figures of the next one
 pub record RowsFilled (P : Kind → ℕ → ℕ → Type 0) (lists : List (List ℕ)) (i n : ℕ) : Type 0 where

@@ -6,7 +6,7 @@ use Rattle.fault.specs.declared.Fault.{Fault}
 use Rattle.basis.specs.declared.kind.Kind.{Kind}
 use Rattle.fault.specs.Faults.{Outcome}
 use Rattle.basis.specs.Figures.{Figures, Lawful, count, rank}
-use Rattle.table.specs.Book.{be16, be32, bytes16, bytes32, kind_at, entry_place, entry_bytes, body_place, book_length, in_order, contents_bytes, body_bytes, bodies_bytes, encoded, decoded, decoded_by, entry_right, entry_fault, opening_fault, contents_fault, length_fault, book_fault, figures_fault, buffer_fault, rewrite_fault, written}
+use Rattle.table.specs.Book.{be16, be32, bytes16, bytes32, kind_at, entry_place, entry_bytes, body_place, book_length, in_order, contents_bytes, body_bytes, bodies_bytes, encoded, decoded, entry_right, entry_fault, opening_fault, contents_fault, length_fault, book_fault, figures_fault, buffer_fault, rewrite_fault, written}
 use Rattle.table.proofs.Books.{body_within}
 use Rattle.std.proofs.lemmas.Nat.{be_bytes_2, be_bytes_4, from_be_bytes-to_be_bytes_2, from_be_bytes-to_be_bytes_4}
 use Rattle.std.specs.Int.{w16, w32, from_be_bytes}
@@ -134,9 +134,10 @@ entry_piece b z k small fits right =
     ∙ ap (λ xs. piece p 1 b ++ xs) (sym (piece_join (p + 1) 2 2 b))
     ∙ sym (piece_join p 1 4 b)
 
-body_piece : (b : List ℕ) (z : ℕ) (k : Kind) → ((i : ℕ) → get_or b i 0 < 256) → book_length z ≤ length b → body_bytes (decoded_by z b) k ≡ piece (body_place z k) (4 * count z k) b
-body_piece b z k small fits =
-    from_pieces b (λ x. bytes32 ((decoded_by z b).figure k x)) (λ _. 4) (body_place z k) (count z k)
+body_piece : (b : List ℕ) (k : Kind) → ((i : ℕ) → get_or b i 0 < 256) → book_length (get_or b 1 0) ≤ length b → body_bytes (decoded b) k ≡ piece (body_place (get_or b 1 0) k) (4 * count (get_or b 1 0) k) b
+body_piece b k small fits =
+    let z = get_or b 1 0 in
+    from_pieces b (λ x. bytes32 ((decoded b).figure k x)) (λ _. 4) (body_place z k) (count z k)
     (λ x l. ap bytes32 (listed_inside z (λ j y. be32 b (body_place z j + 4 * y)) k x l)
     ∙ read32 b (body_place z k + 4 * x) small (omega (arith, body_within z k))
     ∙ ap (λ q. piece (body_place z k + q) 4 b) (sym (total_same 4 x)))
@@ -172,7 +173,7 @@ encoded_decoded b small none =
     let sizes : ℕ → ℕ = λ j. 4 * count z (kind_at j) in
     let bodies : bodies_bytes (decoded b) ≡ piece 37 (total sizes 7) b =
     from_pieces b (λ i. body_bytes (decoded b) (kind_at i)) sizes 37 7
-    (λ i l. body_piece b z (kind_at i) small (omega arith) ∙ ap (λ q. piece q (sizes i) b) (sym (body_total z i l))) in
+    (λ i l. body_piece b (kind_at i) small (omega arith) ∙ ap (λ q. piece q (sizes i) b) (sym (body_total z i l))) in
     let rest : piece 2 35 b ++ piece 37 (total sizes 7) b ≡ drop 2 b =
     sym (piece_join 2 35 (total sizes 7) b) ∙ take_all (35 + total sizes 7) (drop 2 b) (omega (arith, length-drop 2 b, bodies_total z)) in
     let whole : b ≡ get_or b 0 0 ∷ get_or b 1 0 ∷ drop 2 b = drop_more b 0 0 (omega arith) ∙ ap (λ xs. get_or b 0 0 ∷ xs) (drop_more b 1 0 (omega arith)) in

@@ -48,12 +48,9 @@ body_place z k = 37 + 4 * figures_before z k
 abbrev pub book_length : ℕ → ℕ
 book_length z = 8 * z + 2457
 
--- the figures that a book tells under a final age, and those under its own
-abbrev pub decoded_by : ℕ → List ℕ → Figures
-decoded_by z b = listed z (λ k x. be32 b (body_place z k + 4 * x))
-
+-- the figures that a book tells, under its own final age
 abbrev pub decoded : List ℕ → Figures
-decoded b = decoded_by (slice_index b 1) b
+decoded b = let z = slice_index b 1 in listed z (λ k x. be32 b (body_place z k + 4 * x))
 
 -- the book that tells figures
 abbrev pub entry_bytes : ℕ → Kind → List ℕ

@@ -14,10 +14,10 @@ use fault::{Fault, Refusal};
 pub(crate) struct Opened<'a> {
     book: &'a [u8],
     final_age: u32,
-    ghost listed: { 37 ≤ length book.now },
+    ghost has_contents: { 37 ≤ length book.now },
     ghost told: { final_age ≡ slice_index book.now 1 },
-    ghost old: { 20 ≤ final_age },
-    ghost young: { final_age ≤ 80 },
+    ghost old_enough: { 20 ≤ final_age },
+    ghost young_enough: { final_age ≤ 80 },
 }
 
 impl<'a> Opened<'a> {
@@ -103,6 +103,6 @@ impl<'a> Whole<'a> {
     pub(crate) fn rows(&self) -> Rows
         ensures { tabled result ≡ decoded self.now.opened.book.now }
     {
-        Rows::told(self.opened.final_age, |kind, age| self.figure(kind, age))
+        Rows::from_fn(self.opened.final_age, |kind, age| self.figure(kind, age))
     }
 }

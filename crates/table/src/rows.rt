@@ -1,28 +1,28 @@
-// The figures of a table basis as plain arrays, before more is known of them than that a book has room for them.
+// The figures of a table basis as plain arrays, before the laws of a basis are known of them.
 ghost use Rattle.std.specs.Prelude.{◌≡◌, ℕ, ◌<◌, ◌≤◌, slice_index};
 
 use basis::interface::Basis;
 use basis::kind::{AGES, Kind};
 
 // How many figures a row has room for: one for each age.
-pub(crate) const ROW: usize = 121;
+const ROW: usize = 121;
 
 #[derive(Clone, Copy)]
 pub(crate) struct Rows {
     pub(crate) final_age: u32,
     // a row for each kind, in the kinds' order
-    pub(crate) lists: [[u32; ROW]; 7],
-    ghost old: { 20 ≤ final_age },
-    ghost young: { final_age ≤ 80 },
+    lists: [[u32; ROW]; 7],
+    ghost old_enough: { 20 ≤ final_age },
+    ghost young_enough: { final_age ≤ 80 },
 }
 
 impl Rows {
     ghost use Rattle.table.specs.Table.{row_of, tabled};
 
-    // The rows of the figures that are told by kind and age.
-    pub(crate) fn told<F: Fn(Kind, u32) -> u32>(final_age: u32, figure: F) -> Rows
-        requires old { 20 ≤ final_age }
-        requires young { final_age ≤ 80 }
+    // The rows of the figures that a function tells by kind and age.
+    pub(crate) fn from_fn<F: Fn(Kind, u32) -> u32>(final_age: u32, figure: F) -> Rows
+        requires old_enough { 20 ≤ final_age }
+        requires young_enough { final_age ≤ 80 }
         requires callable { F.IsAlwaysCallable figure }
         ensures aged { result.final_age ≡ final_age }
         ensures told { (k : Kind) (x : ℕ) → x < 121 → F.post figure k x (slice_index (row_of result k) x) }
@@ -40,7 +40,7 @@ impl Rows {
     pub(crate) fn of<B: Basis>(basis: &B) -> Rows
         ensures { tabled result ≡ B.figures basis.now }
     {
-        Rows::told(basis.final_age(), |kind, age| basis.figure(kind, age))
+        Rows::from_fn(basis.final_age(), |kind, age| basis.figure(kind, age))
     }
 
     // The list's figure at an age, 0 at an age that the list has not.

@@ -17,7 +17,7 @@ returns-in_err-check_figures c =
 pub invariant_of-result : goal.invariant_of-result
 invariant_of-result c =
     let rows = c.rows-rows.result in
-    let lawful : Lawful (tabled rows) = figures_lawful (tabled rows) rows.old rows.young (listed_outside rows.final_age _) c.in_ok-check_figures.ensures.0 in
+    let lawful : Lawful (tabled rows) = figures_lawful (tabled rows) rows.old_enough rows.young_enough (listed_outside rows.final_age _) c.in_ok-check_figures.ensures.0 in
     record { aged = lawful.aged; limited = lawful.limited; exits = lawful.exits; seamless = lawful.seamless; closed = lawful.closed }
 
 pub returns : goal.returns

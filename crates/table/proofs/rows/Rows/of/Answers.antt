@@ -5,4 +5,4 @@ use Rattle.table.proofs.rows.Rows.of.Goals as goal
 pub returns : goal.returns
 returns g c =
     let basis = c.args.basis.now in
-    tabled_is (g.B.Basis.figures basis) c.told.result (g.met.B.Basis.lawful basis).ended (c.told.ensures.aged ∙ c.final_age.ensures) (λ k x l. search (rules, c.told.ensures.told k x l))
+    tabled_is (g.B.Basis.figures basis) c.from_fn.result (g.met.B.Basis.lawful basis).ended (c.from_fn.ensures.aged ∙ c.final_age.ensures) (λ k x l. search (rules, c.from_fn.ensures.told k x l))
