@@ -3,8 +3,8 @@ use Rattle.std.proofs.Common.{◌≡◌, ℕ, zero, suc, ◌+◌, ◌*◌, ◌<�
 use Rattle.std.proofs.lemmas.List.{append_assoc, length-append, length-take-le, take-append-drop, take_at, drop_at, drop-drop}
 use Rattle.basis.specs.declared.kind.Kind.{Kind}
 use Rattle.basis.specs.declared.kind.Kind.TheVariants.{Invalidity, ActiveDeath, InvalidDeath, PopulationDeath, WidowDeath, Married, SpouseAge}
-use Rattle.basis.specs.Figures.{Figures, count, rank}
-use Rattle.table.specs.Book.{placed, in_order, kind_at, entry_bytes, entry_place, body_bytes, body_place, bytes16, bytes32, book_length, contents_bytes, bodies_bytes, encoded, written}
+use Rattle.basis.specs.Figures.{Figures, count}
+use Rattle.table.specs.Book.{placed, in_order, kind_at, entry_bytes, entry_place, body_bytes, body_place, bytes32, book_length, contents_bytes, bodies_bytes, encoded, written}
 
 pub placed_none : (buffer : List ℕ) (p : ℕ) → placed buffer p [] ≡ buffer
 placed_none buffer p = ap (λ m. take p buffer ++ drop m buffer) (omega arith) ∙ take-append-drop p buffer
@@ -64,16 +64,6 @@ entry_place_is = seven (λ i. entry_place (kind_at i) ≡ 2 + 5 * i) refl refl r
 
 pub length_body : (f : Figures) (k : Kind) → length (body_bytes f k) ≡ 4 * count f.final_age k
 length_body f k = length_order (count f.final_age k) 4 (λ x. bytes32 (f.figure k x)) (λ x. refl)
-
--- an entry's three parts, placed one after another
-pub placed_entry : (b b1 b2 b3 : List ℕ) (z : ℕ) (k : Kind) (p r n m : ℕ) (counted told : List ℕ) → p ≡ entry_place k → r ≡ rank k → counted ≡ bytes16 n → n ≡ count z k → told ≡ bytes16 m → m ≡ body_place z k
-    → b1 ≡ placed b p (r ∷ []) → b2 ≡ placed b1 (p + 1) counted → b3 ≡ placed b2 (p + 3) told → p + 5 ≤ length b → b3 ≡ placed b (entry_place k) (entry_bytes z k)
-placed_entry b b1 b2 b3 z k p r n m counted told ep er ec en et em first second third fits =
-    let two : b2 ≡ placed b p (r ∷ counted) = second ∙ ap (λ xs. placed xs (p + 1) counted) first ∙ placed_more b p (r ∷ []) counted (p + 1) refl (omega arith) in
-    let three : b3 ≡ placed b p ((r ∷ counted) ++ told) = third ∙ ap (λ xs. placed xs (p + 3) told) two ∙ placed_more b p (r ∷ counted) told (p + 3) (omega (arith, ap length ec)) (omega arith) in
-    let bytes : (r ∷ counted) ++ told ≡ entry_bytes z k =
-    ap (λ x. (x ∷ counted) ++ told) er ∙ ap (λ x. (rank k ∷ x) ++ told) (ec ∙ ap bytes16 en) ∙ ap (λ x. (rank k ∷ bytes16 (count z k)) ++ x) (et ∙ ap bytes16 em) in
-    three ∙ ap (placed b p) bytes ∙ ap (λ q. placed b q (entry_bytes z k)) ep
 
 pub entry_within : (k : Kind) → entry_place k + 5 ≤ 37
 entry_within Invalidity = omega arith

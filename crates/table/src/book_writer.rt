@@ -19,12 +19,10 @@ fn put_entry(buffer: &mut [u8], rows: &Rows, kind: Kind)
     requires { book_length rows.now.final_age ≤ length buffer.old }
     ensures { buffer.new ≡ placed buffer.old (entry_place kind) (entry_bytes rows.now.final_age kind) }
 {
-    let place = entry_place(kind);
-    let count = kind.count(rows.final_age) as u16;
-    let body = body_place(kind, rows.final_age) as u16;
-    put(buffer, place, &[kind.rank()]);
-    put(buffer, place + 1, &count.to_be_bytes());
-    put(buffer, place + 3, &body.to_be_bytes());
+    let [count_high, count_low] = (kind.count(rows.final_age) as u16).to_be_bytes();
+    let [body_high, body_low] = (body_place(kind, rows.final_age) as u16).to_be_bytes();
+    let entry = [kind.rank(), count_high, count_low, body_high, body_low];
+    put(buffer, entry_place(kind), &entry);
 }
 
 fn put_contents(buffer: &mut [u8], rows: &Rows)
