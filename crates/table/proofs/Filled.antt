@@ -13,9 +13,12 @@ tabled_is f r ended aged each =
     ap (λ z. listed z (λ k x. get_or (row_of r k) x 0)) aged
     ∙ listed_is f (λ k x. get_or (row_of r k) x 0) ended (λ k x l. each k x (omega (arith, count_most f.final_age k, r.young_enough)))
 
--- the first i rows are filled, and n figures of the next one
-pub record RowsFilled (P : Kind → ℕ → ℕ → Type 0) (lists : List (List ℕ)) (i n : ℕ) : Type 0 where
-  pub rows : length lists ≡ 7
-  pub ages : (j : ℕ) → j < 7 → length (get_or lists j []) ≡ 121
-  pub before : (j x : ℕ) → j < i → x < 121 → P (kind_at j) x (get_or (get_or lists j []) x 0)
-  pub here : (x : ℕ) → x < n → P (kind_at i) x (get_or (get_or lists i []) x 0)
+-- a row is filled at each age below n
+pub record IsFilled (P : ℕ → ℕ → Type 0) (row : List ℕ) (n : ℕ) : Type 0 where
+  pub long : length row ≡ 121
+  pub told : (x : ℕ) → x < n → P x (get_or row x 0)
+
+-- the first n rows are filled
+pub record AreFilled (P : Kind → ℕ → ℕ → Type 0) (lists : List (List ℕ)) (n : ℕ) : Type 0 where
+  pub long : length lists ≡ 7
+  pub told : (i x : ℕ) → i < n → x < 121 → P (kind_at i) x (get_or (get_or lists i []) x 0)

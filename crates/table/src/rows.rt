@@ -29,9 +29,11 @@ impl Rows {
     {
         let mut lists = [[0; ROW]; 7];
         for kind in Kind::ALL {
+            let mut row = [0; ROW];
             for age in 0..AGES {
-                lists[kind as usize][age as usize] = figure(kind, age);
+                row[age as usize] = figure(kind, age);
             }
+            lists[kind as usize] = row;
         }
         Rows { final_age, lists }
     }
