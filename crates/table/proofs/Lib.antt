@@ -1,4 +1,3 @@
-pub mod Books
 pub mod Exits
 pub mod Filled
 pub mod Lawfulness

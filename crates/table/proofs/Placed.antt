@@ -2,7 +2,7 @@
 use Rattle.std.proofs.Common.{◌≡◌, ℕ, zero, suc, ◌+◌, ◌*◌, ◌<◌, ◌≤◌, List, [], ◌∷◌, ◌++◌, length, take, drop, sym, refl, ap, ◌∙◌, add-one, arith}
 use Rattle.std.proofs.lemmas.List.{append_assoc, length-append, length-take-le, take-append-drop, take_at, drop_at, drop-drop}
 use Rattle.basis.specs.declared.kind.Kind.{Kind}
-use Rattle.basis.specs.declared.kind.Kind.TheVariants.{Invalidity, ActiveDeath, InvalidDeath, PopulationDeath, WidowDeath, Married, SpouseAge}
+use Rattle.basis.specs.declared.kind.Kind.TheVariants.{SpouseAge}
 use Rattle.basis.specs.Figures.{Figures, count}
 use Rattle.table.specs.Book.{placed, in_order, kind_at, entry_bytes, entry_place, body_bytes, body_place, bytes32, book_length, contents_bytes, bodies_bytes, encoded, written}
 
@@ -65,14 +65,13 @@ entry_place_is = seven (λ i. entry_place (kind_at i) ≡ 2 + 5 * i) refl refl r
 pub length_body : (f : Figures) (k : Kind) → length (body_bytes f k) ≡ 4 * count f.final_age k
 length_body f k = length_order (count f.final_age k) 4 (λ x. bytes32 (f.figure k x)) (λ x. refl)
 
+-- every entry ends within the contents
 pub entry_within : (k : Kind) → entry_place k + 5 ≤ 37
-entry_within Invalidity = omega arith
-entry_within ActiveDeath = omega arith
-entry_within InvalidDeath = omega arith
-entry_within PopulationDeath = omega arith
-entry_within WidowDeath = omega arith
-entry_within Married = omega arith
-entry_within SpouseAge = omega arith
+entry_within k = grind arith
+
+-- every body ends within the book
+pub body_within : (z : ℕ) (k : Kind) → body_place z k + 4 * count z k ≤ book_length z
+body_within z k = grind arith
 
 pub length_contents : (z n : ℕ) → length (in_order n (λ i. entry_bytes z (kind_at i))) ≡ 5 * n
 length_contents z n = length_order n 5 (λ i. entry_bytes z (kind_at i)) (λ i. refl)

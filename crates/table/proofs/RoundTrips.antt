@@ -7,14 +7,13 @@ use Rattle.basis.specs.declared.kind.Kind.{Kind}
 use Rattle.fault.specs.Faults.{Outcome}
 use Rattle.basis.specs.Figures.{Figures, Lawful, count, rank}
 use Rattle.table.specs.Book.{be16, be32, bytes16, bytes32, kind_at, entry_place, entry_bytes, body_place, book_length, in_order, contents_bytes, body_bytes, bodies_bytes, encoded, decoded, entry_right, entry_fault, opening_fault, contents_fault, length_fault, book_fault, figures_fault, buffer_fault, rewrite_fault, written}
-use Rattle.table.proofs.Books.{body_within}
 use Rattle.std.proofs.lemmas.Nat.{be_bytes_2, be_bytes_4, from_be_bytes-to_be_bytes_2, from_be_bytes-to_be_bytes_4}
 use Rattle.std.specs.Int.{w16, w32, from_be_bytes}
 use Rattle.fault.proofs.Firsts.{first_of_none, first_passes, first_passed, refuse_none, none_refuse, passed_on}
 use Rattle.table.proofs.Lawfulness.{each_kind, lawful_passes}
 use Rattle.basis.specs.Layered.{million}
 use Rattle.basis.specs.Listed.{listed_inside, listed_is, count_most}
-use Rattle.table.proofs.Placed.{next_body, entry_place_is, entry_within, length_body, length_contents, length_bodies, length_encoded}
+use Rattle.table.proofs.Placed.{body_within, next_body, entry_place_is, entry_within, length_body, length_contents, length_bodies, length_encoded}
 
 -- n bytes of a book, from a place on
 abbrev piece : ℕ → ℕ → List ℕ → List ℕ

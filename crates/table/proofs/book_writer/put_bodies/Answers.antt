@@ -1,8 +1,7 @@
 use Rattle.std.proofs.Common.{◌∙◌, arith}
 use Rattle.table.specs.Book.{body_bytes, body_place, kind_at}
 use Rattle.table.specs.Table.{tabled}
-use Rattle.table.proofs.Books.{body_within}
-use Rattle.table.proofs.Placed.{placed_order_none, placed_order_more, bodies_before}
+use Rattle.table.proofs.Placed.{body_within, placed_order_none, placed_order_more, bodies_before}
 use Rattle.table.proofs.book_writer.put_bodies.Goals as goal
 
 pub loop-kind-init : goal.loop-kind-init
