@@ -1,5 +1,5 @@
 // Reading a table book: every check in its order, and the rows of a book that passes.
-ghost use Rattle.std.specs.Prelude.{◌≡◌, ℕ, ◌+◌, ◌*◌, ◌<◌, ◌≤◌, length, slice_index};
+ghost use Rattle.std.specs.Prelude.{◌≡◌, ◌+◌, ◌≤◌, length, slice_index, slice_range};
 ghost use Rattle.table.specs.Book.{book_length, decoded, opening_fault, entry_fault, contents_fault, length_fault};
 ghost use Rattle.fault.specs.Faults.{Outcome};
 ghost use Rattle.table.specs.Table.{tabled};
@@ -41,7 +41,7 @@ impl<'a> Opened<'a> {
     // The bytes at a place.
     fn bytes_at<const N: usize>(&self, place: usize) -> [u8; N]
         requires { place + N ≤ length self.now.book.now }
-        ensures { (i : ℕ) → i < N → slice_index result i ≡ slice_index self.now.book.now (place + i) }
+        ensures { result ≡ slice_range self.now.book.now place (place + N) }
     {
         *self.book[place..].first_chunk().unwrap()
     }
