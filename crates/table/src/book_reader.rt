@@ -50,10 +50,11 @@ impl<'a> Opened<'a> {
         ensures { Outcome result (entry_fault self.now.book.now self.now.final_age kind) (λ _. Unit {0}) }
     {
         let place = entry_place(kind);
+        let count = u16::from_be_bytes(self.bytes_at(place + 1)) as u32;
+        let body = u16::from_be_bytes(self.bytes_at(place + 3)) as usize;
         let right = self.book[place] == kind.rank()
-            && u16::from_be_bytes(self.bytes_at(place + 1)) as u32 == kind.count(self.final_age)
-            && u16::from_be_bytes(self.bytes_at(place + 3)) as usize
-                == body_place(kind, self.final_age);
+            && count == kind.count(self.final_age)
+            && body == body_place(kind, self.final_age);
         if !right {
             return Err(Fault::new(Refusal::Contents, kind.rank() as u32, 0));
         }
