@@ -2,7 +2,6 @@
 use Rattle.std.proofs.Common.{◌≡◌, ℕ, zero, suc, ◌+◌, ◌*◌, ◌<◌, ◌≤◌, List, [], ◌∷◌, ◌++◌, length, take, drop, sym, refl, ap, ◌∙◌, add-one, arith}
 use Rattle.std.proofs.lemmas.List.{append_assoc, length-append, length-take-le, take-append-drop, take_at, drop_at, drop-drop}
 use Rattle.basis.specs.declared.kind.Kind.{Kind}
-use Rattle.basis.specs.declared.kind.Kind.TheVariants.{SpouseAge}
 use Rattle.basis.specs.Figures.{Figures, count}
 use Rattle.table.specs.Book.{placed, in_order, kind_at, entry_bytes, entry_place, body_bytes, body_place, bytes32, book_length, contents_bytes, bodies_bytes, encoded, written}
 
@@ -33,11 +32,24 @@ pub order_more : (n : ℕ) (text : ℕ → List ℕ) → in_order (n + 1) text �
 unfolding in_order
 order_more n text = rw add-one refl
 
+-- the sizes of the texts before one
+unfoldable pub total : (ℕ → ℕ) → ℕ → ℕ
+total size zero = 0
+total size (suc n) = total size n + size n
+
+pub total_same : (m n : ℕ) → total (λ _. m) n ≡ m * n
+unfolding total
+total_same m zero = omega arith
+total_same m (suc n) = omega (arith, total_same m n)
+
+pub total_length : (text : ℕ → List ℕ) (size : ℕ → ℕ) (n : ℕ) → ((k : ℕ) → length (text k) ≡ size k) → length (in_order n text) ≡ total size n
+unfolding total in_order
+total_length text size zero each = refl
+total_length text size (suc n) each = length-append (in_order n text) (text n) ∙ omega (arith, each n, total_length text size n each)
+
 -- texts of one length
 pub length_order : (n m : ℕ) (text : ℕ → List ℕ) → ((k : ℕ) → length (text k) ≡ m) → length (in_order n text) ≡ m * n
-unfolding in_order
-length_order zero m text each = omega arith
-length_order (suc n) m text each = length-append (in_order n text) (text n) ∙ omega (arith, each n, length_order n m text each)
+length_order n m text each = total_length text (λ _. m) n each ∙ total_same m n
 
 -- a loop that places the texts one after another: its step
 pub placed_order_more : (start now : List ℕ) (p n q : ℕ) (text : ℕ → List ℕ) → now ≡ placed start p (in_order n text) → p + length (in_order n text) ≡ q → q ≤ length start → placed now q (text n) ≡ placed start p (in_order (n + 1) text)
@@ -82,18 +94,24 @@ next_body z i l =
     seven (λ j. j < 6 → body_place z (kind_at (suc j)) ≡ body_place z (kind_at j) + 4 * count z (kind_at j))
     (λ _. omega arith) (λ _. omega arith) (λ _. omega arith) (λ _. omega arith) (λ _. omega arith) (λ _. omega arith) (λ m. absurd (omega arith)) i (omega arith) l
 
+-- the bodies' sizes add up to their places
+pub body_total : (z i : ℕ) → i < 7 → 37 + total (λ j. 4 * count z (kind_at j)) i ≡ body_place z (kind_at i)
+unfolding total
+body_total z zero l = refl
+body_total z (suc i) l = omega (arith, body_total z i (omega arith), next_body z i (omega arith))
+
+pub bodies_total : (z : ℕ) → 37 + total (λ j. 4 * count z (kind_at j)) 7 ≡ book_length z
+unfolding total
+bodies_total z = omega (arith, body_total z 6 (omega arith))
+
+bodies_length : (f : Figures) (i : ℕ) → length (in_order i (λ j. body_bytes f (kind_at j))) ≡ total (λ j. 4 * count f.final_age (kind_at j)) i
+bodies_length f i = total_length (λ j. body_bytes f (kind_at j)) (λ j. 4 * count f.final_age (kind_at j)) i (λ j. length_body f (kind_at j))
+
 pub bodies_before : (f : Figures) (i : ℕ) → i < 7 → 37 + length (in_order i (λ j. body_bytes f (kind_at j))) ≡ body_place f.final_age (kind_at i)
-unfolding in_order
-bodies_before f zero l = refl
-bodies_before f (suc i) l =
-    let text = λ (j : ℕ). body_bytes f (kind_at j) in
-    let long = length-append (in_order i text) (text i) in
-    omega (arith, long, length_body f (kind_at i), bodies_before f i (omega arith), next_body f.final_age i (omega arith))
+bodies_before f i l = omega (arith, bodies_length f i, body_total f.final_age i l)
 
 pub length_bodies : (f : Figures) → 37 + length (in_order 7 (λ j. body_bytes f (kind_at j))) ≡ book_length f.final_age
-length_bodies f =
-    let text = λ (j : ℕ). body_bytes f (kind_at j) in
-    omega (arith, ap length (order_more 6 text), length-append (in_order 6 text) (text 6), length_body f SpouseAge, bodies_before f 6 (omega arith))
+length_bodies f = omega (arith, bodies_length f 7, bodies_total f.final_age)
 
 -- the opening, the contents and the bodies, placed one after another, are the book
 pub length_encoded : (f : Figures) → length (encoded f) ≡ book_length f.final_age

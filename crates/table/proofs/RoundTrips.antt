@@ -1,6 +1,6 @@
 -- A book read and written out is the same bytes; figures written out and read are the same figures. Assumes nothing.
 use Rattle.std.proofs.Common.{◌≡◌, ℕ, zero, suc, ◌+◌, ◌-◌, ◌*◌, ◌<◌, ◌≤◌, true, ◌&&◌, ◌||◌, eqb, ltb, List, [], ◌∷◌, ◌++◌, length, get_or, take, drop, IfErr, None, Ok, Err, Result, sym, refl, ap, ◌∙◌, ⊎_elim, arith, take-add}
-use Rattle.std.proofs.lemmas.List.{length-append, length-take, length-take-le, get_or_past, drop-take, take-take, length-drop, take_at, drop_at, drop-drop, take_all, drop_more, get_or-take, get_or-drop}
+use Rattle.std.proofs.lemmas.List.{length-take, length-take-le, get_or_past, drop-take, take-take, length-drop, take_at, drop_at, drop-drop, take_all, drop_more, get_or-take, get_or-drop}
 use Rattle.std.proofs.lemmas.Bool.{cases_lt, le-ltb, eqb-true, eq-eqb, and_parts, and_from, not-false, not_from_true, or_from}
 use Rattle.fault.specs.declared.Fault.{Fault}
 use Rattle.basis.specs.declared.kind.Kind.{Kind}
@@ -13,7 +13,7 @@ use Rattle.fault.proofs.Firsts.{first_of_none, first_passes, first_passed, refus
 use Rattle.table.proofs.Lawfulness.{each_kind, lawful_passes}
 use Rattle.basis.specs.Layered.{million}
 use Rattle.basis.specs.Listed.{listed_inside, listed_is, count_most}
-use Rattle.table.proofs.Placed.{body_within, next_body, entry_place_is, entry_within, length_body, length_contents, length_bodies, length_encoded}
+use Rattle.table.proofs.Placed.{body_within, body_total, bodies_total, entry_place_is, total, total_same, total_length, entry_within, length_body, length_contents, length_bodies, length_encoded}
 
 -- n bytes of a book, from a place on
 abbrev piece : ℕ → ℕ → List ℕ → List ℕ
@@ -27,16 +27,6 @@ length_piece p n b fits = length-take-le n (drop p b) (omega (arith, length-drop
 
 piece_at : (p n i : ℕ) (b : List ℕ) → i < n → get_or (piece p n b) i 0 ≡ get_or b (p + i) 0
 piece_at p n i b l = get_or-take n (drop p b) i 0 l ∙ get_or-drop p b i 0
-
--- the sizes of the texts before one
-total : (ℕ → ℕ) → ℕ → ℕ
-total size zero = 0
-total size (suc n) = total size n + size n
-
-total_same : (m n : ℕ) → total (λ _. m) n ≡ m * n
-unfolding total
-total_same m zero = omega arith
-total_same m (suc n) = omega (arith, total_same m n)
 
 -- texts that are pieces of a book, each where the one before ends, are a piece of it
 from_pieces : (b : List ℕ) (text : ℕ → List ℕ) (size : ℕ → ℕ) (p n : ℕ) → ((k : ℕ) → k < n → text k ≡ piece (p + total size k) (size k) b) → in_order n text ≡ piece p (total size n) b
@@ -54,11 +44,6 @@ same_parts xs us ys vs long e = (
   sym (drop_at xs ys (length xs) refl) ∙ ap (drop (length xs)) e ∙ drop_at us vs (length xs) (sym long),
 )
 
-total_length : (text : ℕ → List ℕ) (size : ℕ → ℕ) (n : ℕ) → ((k : ℕ) → length (text k) ≡ size k) → length (in_order n text) ≡ total size n
-unfolding total in_order
-total_length text size zero each = refl
-total_length text size (suc n) each = length-append (in_order n text) (text n) ∙ omega (arith, each n, total_length text size n each)
-
 -- and the other way round
 to_pieces : (b : List ℕ) (text : ℕ → List ℕ) (size : ℕ → ℕ) (p n : ℕ) → ((k : ℕ) → length (text k) ≡ size k) → p + total size n ≤ length b → in_order n text ≡ piece p (total size n) b → (k : ℕ) → k < n → text k ≡ piece (p + total size k) (size k) b
 unfolding total in_order
@@ -69,16 +54,6 @@ to_pieces b text size p (suc n) each fits e k l =
     ⊎_elim (λ below. to_pieces b text size p n each (omega arith) parts.0 k below)
     (λ above. let same : k ≡ n = omega arith in ap text same ∙ parts.1 ∙ ap (λ m. piece (p + total size m) (size m) b) (sym same))
     (cases_lt k n)
-
--- the bodies' sizes add up to their places
-body_total : (z i : ℕ) → i < 7 → 37 + total (λ j. 4 * count z (kind_at j)) i ≡ body_place z (kind_at i)
-unfolding total
-body_total z zero l = refl
-body_total z (suc i) l = omega (arith, body_total z i (omega arith), next_body z i (omega arith))
-
-bodies_total : (z : ℕ) → 37 + total (λ j. 4 * count z (kind_at j)) 7 ≡ book_length z
-unfolding total
-bodies_total z = omega (arith, body_total z 6 (omega arith))
 
 -- Numbers as pieces.
 at_zero : (b : List ℕ) (p : ℕ) → get_or b (p + 0) 0 ≡ get_or b p 0
@@ -261,5 +236,4 @@ reread told (Ok t) f buffer after part n lawful room long filled cut answer =
 reread told (Err e) f buffer after part n lawful room long filled cut answer =
     let same : part ≡ encoded f = cut ∙ ap (take n) filled ∙ take_at (encoded f) (drop (book_length f.final_age) buffer) n (length_encoded f ∙ sym long) in
     let none : book_fault part ≡ None = ap book_fault same ∙ encoded_passes f lawful in
-    let z : ◌≡◌ {A = ℕ} 0 1 = cc in
-    absurd (omega arith)
+    absurd cc
