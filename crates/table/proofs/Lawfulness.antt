@@ -1,10 +1,10 @@
 -- The checks of figures find nothing exactly where the laws hold. Assumes nothing.
-use Rattle.std.proofs.Common.{◌≡◌, ℕ, ◌+◌, ◌<◌, ◌≤◌, not, eqb, ltb, leb, List, length, get_or, None, sym, ap, ◌∙◌, ⊎_elim, arith}
-use Rattle.std.proofs.lemmas.Bool.{ltb-false, le-ltb, le-leb, lt-leb, eqb-true, eq-eqb, and_cases, and_left, and_right, not-false, not_from_true, or_parts, cases_lt, both_ways}
+use Rattle.std.proofs.Common.{◌≡◌, ℕ, ◌+◌, ◌<◌, ◌≤◌, not, eqb, leb, List, get_or, None, sym, ap, ◌∙◌, subst, ⊎_elim, arith}
+use Rattle.std.proofs.lemmas.Bool.{ltb-false, le-ltb, le-leb, lt-leb, eqb-true, eq-eqb, and_cases, and_left, and_right, not-false, not_from_true, cases_lt, both_ways}
 use Rattle.basis.specs.declared.kind.Kind.{Kind}
 use Rattle.basis.specs.declared.kind.Kind.TheVariants.{Invalidity, ActiveDeath, InvalidDeath, PopulationDeath, WidowDeath, Married, SpouseAge}
 use Rattle.basis.specs.Figures.{Figures, Lawful, Ended, Limited, Exits, Seamless, Closed, count, limit}
-use Rattle.table.specs.Book.{kind_at, opening_fault, contents_fault, length_fault, book_fault, figures_fault, limit_fault, list_fault, limit_fault_at, exits_fault, exits_fault_at, seam_fault, seam_fault_at, open_end_fault, decoded, decoded_by}
+use Rattle.table.specs.Book.{kind_at, opening_fault, contents_fault, length_fault, book_fault, figures_fault, limit_fault, list_fault, limit_fault_at, exits_fault, exits_fault_at, seam_fault, seam_fault_at, open_end_fault, decoded}
 use Rattle.fault.proofs.Firsts.{first_passes, first_passed, first_of_none, refuse_none, none_refuse, passed_on}
 
 -- what is checked at each place of the kinds' order is checked of each kind
@@ -63,16 +63,11 @@ lawful_passes f lawful =
     let ends : open_end_fault f ≡ None = passed_on _ _ (none_refuse _ _ (not_from_true _ (eq-eqb _ _ lawful.closed.0))) ∙ none_refuse _ _ (not_from_true _ (eq-eqb _ _ lawful.closed.2)) in
     passed_on _ _ limited ∙ passed_on _ _ leaving ∙ passed_on _ _ seam ∙ ends
 
--- a book whose opening passes has its contents and a lawful final age
-pub opening_passed : (b : List ℕ) → opening_fault b ≡ None → (37 ≤ length b) × (20 ≤ get_or b 1 0) × (get_or b 1 0 ≤ 80)
-opening_passed b none =
-    let stub = first_of_none _ _ none in
-    let edition = first_of_none _ _ stub.1 in
-    let aged = or_parts (ltb (get_or b 1 0) 20) (ltb 80 (get_or b 1 0)) (refuse_none _ _ edition.1) in
-    (ltb-false _ _ (refuse_none _ _ stub.0), ltb-false _ _ aged.0, ltb-false _ _ aged.1)
-
 -- a book that passes until its figures are read is refused for its figures, or not at all
-pub book_by_figures : (b : List ℕ) (z : ℕ) (f : Figures) → opening_fault b ≡ None → z ≡ get_or b 1 0 → contents_fault b z ≡ None → length_fault b z ≡ None → f ≡ decoded_by z b → (book_fault b ≡ figures_fault f) × (f ≡ decoded b)
-book_by_figures b z f opening same contents long told =
-    let own : f ≡ decoded b = told ∙ ap (λ y. decoded_by y b) same in
-    (passed_on _ _ opening ∙ passed_on _ _ (ap (contents_fault b) (sym same) ∙ contents) ∙ passed_on _ _ (ap (length_fault b) (sym same) ∙ long) ∙ ap figures_fault (sym own), own)
+pub book_by_figures : (b o : List ℕ) (z : ℕ) (f : Figures) → o ≡ b → z ≡ get_or o 1 0 → opening_fault b ≡ None → contents_fault o z ≡ None → length_fault o z ≡ None → f ≡ decoded o → (book_fault b ≡ figures_fault f) × (f ≡ decoded b)
+book_by_figures b o z f same aged opening contents long told =
+    let own : f ≡ decoded b = told ∙ ap decoded same in
+    let age : z ≡ get_or b 1 0 = aged ∙ ap (λ xs. get_or xs 1 0) same in
+    let listing : contents_fault b (get_or b 1 0) ≡ None = subst (λ xs. contents_fault xs (get_or b 1 0) ≡ None) same (subst (λ y. contents_fault o y ≡ None) age contents) in
+    let measured : length_fault b (get_or b 1 0) ≡ None = subst (λ xs. length_fault xs (get_or b 1 0) ≡ None) same (subst (λ y. length_fault o y ≡ None) age long) in
+    (passed_on _ _ opening ∙ passed_on _ _ listing ∙ passed_on _ _ measured ∙ ap figures_fault (sym own), own)

@@ -1,5 +1,4 @@
-pub mod Books
-pub mod Digits
+pub mod Exits
 pub mod Filled
 pub mod Lawfulness
 pub mod Placed

@@ -1,20 +1,9 @@
 -- Bytes put into a buffer one after another. Assumes nothing.
 use Rattle.std.proofs.Common.{◌≡◌, ℕ, zero, suc, ◌+◌, ◌*◌, ◌<◌, ◌≤◌, List, [], ◌∷◌, ◌++◌, length, take, drop, sym, refl, ap, ◌∙◌, add-one, arith}
-use borrow.Rule.Slice.PartMut.{put_mid}
-use Rattle.std.proofs.lemmas.List.{append_assoc, length-append, length-take, length-drop, length-take-le, take-append-drop, take_at, drop_at, drop-drop}
+use Rattle.std.proofs.lemmas.List.{append_assoc, length-append, length-take-le, take-append-drop, take_at, drop_at, drop-drop}
 use Rattle.basis.specs.declared.kind.Kind.{Kind}
-use Rattle.basis.specs.declared.kind.Kind.TheVariants.{Invalidity, ActiveDeath, InvalidDeath, PopulationDeath, WidowDeath, Married, SpouseAge}
-use Rattle.basis.specs.Figures.{Figures, count, rank}
-use Rattle.table.specs.Book.{placed, in_order, kind_at, entry_bytes, entry_place, body_bytes, body_place, bytes16, bytes32, book_length, contents_bytes, bodies_bytes, encoded, written}
-
--- a write to a part of the buffer is such a placing
-pub placed_part : (p n : ℕ) (buffer part bytes : List ℕ) → part ≡ bytes → n ≡ length bytes → put_mid p n buffer part ≡ placed buffer p bytes
-placed_part p n buffer part bytes same long =
-    ap (λ ys. take p buffer ++ (ys ++ drop n (drop p buffer))) same
-    ∙ ap (λ rest. take p buffer ++ (bytes ++ rest)) (drop-drop n p buffer ∙ ap (λ m. drop (p + m) buffer) long)
-
-pub length_placed : (buffer : List ℕ) (p : ℕ) (bytes : List ℕ) → p + length bytes ≤ length buffer → length (placed buffer p bytes) ≡ length buffer
-length_placed buffer p bytes fits = simp (length-append, length-take, length-drop) (omega arith)
+use Rattle.basis.specs.Figures.{Figures, count}
+use Rattle.table.specs.Book.{placed, in_order, kind_at, entry_bytes, entry_place, body_bytes, body_place, bytes32, book_length, contents_bytes, bodies_bytes, encoded, written}
 
 pub placed_none : (buffer : List ℕ) (p : ℕ) → placed buffer p [] ≡ buffer
 placed_none buffer p = ap (λ m. take p buffer ++ drop m buffer) (omega arith) ∙ take-append-drop p buffer
@@ -43,11 +32,24 @@ pub order_more : (n : ℕ) (text : ℕ → List ℕ) → in_order (n + 1) text �
 unfolding in_order
 order_more n text = rw add-one refl
 
+-- the sizes of the texts before one
+unfoldable pub total : (ℕ → ℕ) → ℕ → ℕ
+total size zero = 0
+total size (suc n) = total size n + size n
+
+pub total_same : (m n : ℕ) → total (λ _. m) n ≡ m * n
+unfolding total
+total_same m zero = omega arith
+total_same m (suc n) = omega (arith, total_same m n)
+
+pub total_length : (text : ℕ → List ℕ) (size : ℕ → ℕ) (n : ℕ) → ((k : ℕ) → length (text k) ≡ size k) → length (in_order n text) ≡ total size n
+unfolding total in_order
+total_length text size zero each = refl
+total_length text size (suc n) each = length-append (in_order n text) (text n) ∙ omega (arith, each n, total_length text size n each)
+
 -- texts of one length
 pub length_order : (n m : ℕ) (text : ℕ → List ℕ) → ((k : ℕ) → length (text k) ≡ m) → length (in_order n text) ≡ m * n
-unfolding in_order
-length_order zero m text each = omega arith
-length_order (suc n) m text each = length-append (in_order n text) (text n) ∙ omega (arith, each n, length_order n m text each)
+length_order n m text each = total_length text (λ _. m) n each ∙ total_same m n
 
 -- a loop that places the texts one after another: its step
 pub placed_order_more : (start now : List ℕ) (p n q : ℕ) (text : ℕ → List ℕ) → now ≡ placed start p (in_order n text) → p + length (in_order n text) ≡ q → q ≤ length start → placed now q (text n) ≡ placed start p (in_order (n + 1) text)
@@ -75,24 +77,13 @@ entry_place_is = seven (λ i. entry_place (kind_at i) ≡ 2 + 5 * i) refl refl r
 pub length_body : (f : Figures) (k : Kind) → length (body_bytes f k) ≡ 4 * count f.final_age k
 length_body f k = length_order (count f.final_age k) 4 (λ x. bytes32 (f.figure k x)) (λ x. refl)
 
--- an entry's three parts, placed one after another
-pub placed_entry : (b b1 b2 b3 : List ℕ) (z : ℕ) (k : Kind) (p r n m : ℕ) (counted told : List ℕ) → p ≡ entry_place k → r ≡ rank k → counted ≡ bytes16 n → n ≡ count z k → told ≡ bytes16 m → m ≡ body_place z k
-    → b1 ≡ placed b p (r ∷ []) → b2 ≡ placed b1 (p + 1) counted → b3 ≡ placed b2 (p + 3) told → p + 5 ≤ length b → b3 ≡ placed b (entry_place k) (entry_bytes z k)
-placed_entry b b1 b2 b3 z k p r n m counted told ep er ec en et em first second third fits =
-    let two : b2 ≡ placed b p (r ∷ counted) = second ∙ ap (λ xs. placed xs (p + 1) counted) first ∙ placed_more b p (r ∷ []) counted (p + 1) refl (omega arith) in
-    let three : b3 ≡ placed b p ((r ∷ counted) ++ told) = third ∙ ap (λ xs. placed xs (p + 3) told) two ∙ placed_more b p (r ∷ counted) told (p + 3) (omega (arith, ap length ec)) (omega arith) in
-    let bytes : (r ∷ counted) ++ told ≡ entry_bytes z k =
-    ap (λ x. (x ∷ counted) ++ told) er ∙ ap (λ x. (rank k ∷ x) ++ told) (ec ∙ ap bytes16 en) ∙ ap (λ x. (rank k ∷ bytes16 (count z k)) ++ x) (et ∙ ap bytes16 em) in
-    three ∙ ap (placed b p) bytes ∙ ap (λ q. placed b q (entry_bytes z k)) ep
-
+-- every entry ends within the contents
 pub entry_within : (k : Kind) → entry_place k + 5 ≤ 37
-entry_within Invalidity = omega arith
-entry_within ActiveDeath = omega arith
-entry_within InvalidDeath = omega arith
-entry_within PopulationDeath = omega arith
-entry_within WidowDeath = omega arith
-entry_within Married = omega arith
-entry_within SpouseAge = omega arith
+entry_within k = grind arith
+
+-- every body ends within the book
+pub body_within : (z : ℕ) (k : Kind) → body_place z k + 4 * count z k ≤ book_length z
+body_within z k = grind arith
 
 pub length_contents : (z n : ℕ) → length (in_order n (λ i. entry_bytes z (kind_at i))) ≡ 5 * n
 length_contents z n = length_order n 5 (λ i. entry_bytes z (kind_at i)) (λ i. refl)
@@ -103,18 +94,24 @@ next_body z i l =
     seven (λ j. j < 6 → body_place z (kind_at (suc j)) ≡ body_place z (kind_at j) + 4 * count z (kind_at j))
     (λ _. omega arith) (λ _. omega arith) (λ _. omega arith) (λ _. omega arith) (λ _. omega arith) (λ _. omega arith) (λ m. absurd (omega arith)) i (omega arith) l
 
+-- the bodies' sizes add up to their places
+pub body_total : (z i : ℕ) → i < 7 → 37 + total (λ j. 4 * count z (kind_at j)) i ≡ body_place z (kind_at i)
+unfolding total
+body_total z zero l = refl
+body_total z (suc i) l = omega (arith, body_total z i (omega arith), next_body z i (omega arith))
+
+pub bodies_total : (z : ℕ) → 37 + total (λ j. 4 * count z (kind_at j)) 7 ≡ book_length z
+unfolding total
+bodies_total z = omega (arith, body_total z 6 (omega arith))
+
+bodies_length : (f : Figures) (i : ℕ) → length (in_order i (λ j. body_bytes f (kind_at j))) ≡ total (λ j. 4 * count f.final_age (kind_at j)) i
+bodies_length f i = total_length (λ j. body_bytes f (kind_at j)) (λ j. 4 * count f.final_age (kind_at j)) i (λ j. length_body f (kind_at j))
+
 pub bodies_before : (f : Figures) (i : ℕ) → i < 7 → 37 + length (in_order i (λ j. body_bytes f (kind_at j))) ≡ body_place f.final_age (kind_at i)
-unfolding in_order
-bodies_before f zero l = refl
-bodies_before f (suc i) l =
-    let text = λ (j : ℕ). body_bytes f (kind_at j) in
-    let long = length-append (in_order i text) (text i) in
-    omega (arith, long, length_body f (kind_at i), bodies_before f i (omega arith), next_body f.final_age i (omega arith))
+bodies_before f i l = omega (arith, bodies_length f i, body_total f.final_age i l)
 
 pub length_bodies : (f : Figures) → 37 + length (in_order 7 (λ j. body_bytes f (kind_at j))) ≡ book_length f.final_age
-length_bodies f =
-    let text = λ (j : ℕ). body_bytes f (kind_at j) in
-    omega (arith, ap length (order_more 6 text), length-append (in_order 6 text) (text 6), length_body f SpouseAge, bodies_before f 6 (omega arith))
+length_bodies f = omega (arith, bodies_length f 7, bodies_total f.final_age)
 
 -- the opening, the contents and the bodies, placed one after another, are the book
 pub length_encoded : (f : Figures) → length (encoded f) ≡ book_length f.final_age

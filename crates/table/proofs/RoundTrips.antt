@@ -1,19 +1,19 @@
 -- A book read and written out is the same bytes; figures written out and read are the same figures. Assumes nothing.
-use Rattle.std.proofs.Common.{◌≡◌, ℕ, zero, suc, ◌+◌, ◌*◌, ◌<◌, ◌≤◌, true, ◌&&◌, ◌||◌, eqb, ltb, List, [], ◌∷◌, ◌++◌, length, get_or, take, drop, IfErr, None, Ok, Err, Result, sym, refl, ap, ◌∙◌, ⊎_elim, arith, take-add}
-use Rattle.std.proofs.lemmas.List.{length-append, length-take-le, length-drop, take_at, drop_at, drop-drop, take_all, drop_more, get_or-take, get_or-drop}
+use Rattle.std.proofs.Common.{◌≡◌, ℕ, zero, suc, ◌+◌, ◌-◌, ◌*◌, ◌<◌, ◌≤◌, true, ◌&&◌, ◌||◌, eqb, ltb, List, [], ◌∷◌, ◌++◌, length, get_or, take, drop, IfErr, None, Ok, Err, Result, sym, refl, ap, ◌∙◌, ⊎_elim, arith, take-add}
+use Rattle.std.proofs.lemmas.List.{length-take, length-take-le, get_or_past, drop-take, take-take, length-drop, take_at, drop_at, drop-drop, take_all, drop_more, get_or-take, get_or-drop}
 use Rattle.std.proofs.lemmas.Bool.{cases_lt, le-ltb, eqb-true, eq-eqb, and_parts, and_from, not-false, not_from_true, or_from}
 use Rattle.fault.specs.declared.Fault.{Fault}
 use Rattle.basis.specs.declared.kind.Kind.{Kind}
 use Rattle.fault.specs.Faults.{Outcome}
 use Rattle.basis.specs.Figures.{Figures, Lawful, count, rank}
-use Rattle.table.specs.Book.{be16, be32, bytes16, bytes32, kind_at, entry_place, entry_bytes, body_place, book_length, in_order, contents_bytes, body_bytes, bodies_bytes, encoded, decoded, decoded_by, entry_right, entry_fault, opening_fault, contents_fault, length_fault, book_fault, figures_fault, buffer_fault, rewrite_fault, written}
-use Rattle.table.proofs.Books.{body_within}
-use Rattle.table.proofs.Digits.{digits16, digits32, whole16, whole32}
+use Rattle.table.specs.Book.{be16, be32, bytes16, bytes32, kind_at, entry_place, entry_bytes, body_place, book_length, in_order, contents_bytes, body_bytes, bodies_bytes, encoded, decoded, entry_right, entry_fault, opening_fault, contents_fault, length_fault, book_fault, figures_fault, buffer_fault, rewrite_fault, written}
+use Rattle.std.proofs.lemmas.Nat.{be_bytes_2, be_bytes_4, from_be_bytes-to_be_bytes_2, from_be_bytes-to_be_bytes_4}
+use Rattle.std.specs.Int.{w16, w32, from_be_bytes}
 use Rattle.fault.proofs.Firsts.{first_of_none, first_passes, first_passed, refuse_none, none_refuse, passed_on}
 use Rattle.table.proofs.Lawfulness.{each_kind, lawful_passes}
 use Rattle.basis.specs.Layered.{million}
 use Rattle.basis.specs.Listed.{listed_inside, listed_is, count_most}
-use Rattle.table.proofs.Placed.{next_body, entry_place_is, entry_within, length_body, length_contents, length_bodies, length_encoded}
+use Rattle.table.proofs.Placed.{body_within, body_total, bodies_total, entry_place_is, total, total_same, total_length, entry_within, length_body, length_contents, length_bodies, length_encoded}
 
 -- n bytes of a book, from a place on
 abbrev piece : ℕ → ℕ → List ℕ → List ℕ
@@ -27,16 +27,6 @@ length_piece p n b fits = length-take-le n (drop p b) (omega (arith, length-drop
 
 piece_at : (p n i : ℕ) (b : List ℕ) → i < n → get_or (piece p n b) i 0 ≡ get_or b (p + i) 0
 piece_at p n i b l = get_or-take n (drop p b) i 0 l ∙ get_or-drop p b i 0
-
--- the sizes of the texts before one
-total : (ℕ → ℕ) → ℕ → ℕ
-total size zero = 0
-total size (suc n) = total size n + size n
-
-total_same : (m n : ℕ) → total (λ _. m) n ≡ m * n
-unfolding total
-total_same m zero = omega arith
-total_same m (suc n) = omega (arith, total_same m n)
 
 -- texts that are pieces of a book, each where the one before ends, are a piece of it
 from_pieces : (b : List ℕ) (text : ℕ → List ℕ) (size : ℕ → ℕ) (p n : ℕ) → ((k : ℕ) → k < n → text k ≡ piece (p + total size k) (size k) b) → in_order n text ≡ piece p (total size n) b
@@ -54,11 +44,6 @@ same_parts xs us ys vs long e = (
   sym (drop_at xs ys (length xs) refl) ∙ ap (drop (length xs)) e ∙ drop_at us vs (length xs) (sym long),
 )
 
-total_length : (text : ℕ → List ℕ) (size : ℕ → ℕ) (n : ℕ) → ((k : ℕ) → length (text k) ≡ size k) → length (in_order n text) ≡ total size n
-unfolding total in_order
-total_length text size zero each = refl
-total_length text size (suc n) each = length-append (in_order n text) (text n) ∙ omega (arith, each n, total_length text size n each)
-
 -- and the other way round
 to_pieces : (b : List ℕ) (text : ℕ → List ℕ) (size : ℕ → ℕ) (p n : ℕ) → ((k : ℕ) → length (text k) ≡ size k) → p + total size n ≤ length b → in_order n text ≡ piece p (total size n) b → (k : ℕ) → k < n → text k ≡ piece (p + total size k) (size k) b
 unfolding total in_order
@@ -70,31 +55,39 @@ to_pieces b text size p (suc n) each fits e k l =
     (λ above. let same : k ≡ n = omega arith in ap text same ∙ parts.1 ∙ ap (λ m. piece (p + total size m) (size m) b) (sym same))
     (cases_lt k n)
 
--- the bodies' sizes add up to their places
-body_total : (z i : ℕ) → i < 7 → 37 + total (λ j. 4 * count z (kind_at j)) i ≡ body_place z (kind_at i)
-unfolding total
-body_total z zero l = refl
-body_total z (suc i) l = omega (arith, body_total z i (omega arith), next_body z i (omega arith))
-
-bodies_total : (z : ℕ) → 37 + total (λ j. 4 * count z (kind_at j)) 7 ≡ book_length z
-unfolding total
-bodies_total z = omega (arith, body_total z 6 (omega arith))
-
 -- Numbers as pieces.
-first_two : (p : ℕ) (b : List ℕ) → p + 2 ≤ length b → piece p 2 b ≡ get_or b p 0 ∷ get_or b (p + 1) 0 ∷ []
-first_two p b fits =
-    ap (take 2) (drop_more b p 0 (omega arith) ∙ ap (λ xs. get_or b p 0 ∷ xs) (drop_more b (p + 1) 0 (omega arith)))
+at_zero : (b : List ℕ) (p : ℕ) → get_or b (p + 0) 0 ≡ get_or b p 0
+at_zero b p = ap (λ q. get_or b q 0) (omega arith)
 
-first_four : (p : ℕ) (b : List ℕ) → p + 4 ≤ length b → piece p 4 b ≡ get_or b p 0 ∷ get_or b (p + 1) 0 ∷ get_or b (p + 2) 0 ∷ get_or b (p + 3) 0 ∷ []
-first_four p b fits =
-    piece_join p 2 2 b ∙ ap (λ xs. xs ++ piece (p + 2) 2 b) (first_two p b (omega arith))
-    ∙ ap (λ xs. (get_or b p 0 ∷ get_or b (p + 1) 0 ∷ []) ++ xs) (first_two (p + 2) b (omega arith) ∙ ap (λ q. get_or b (p + 2) 0 ∷ get_or b q 0 ∷ []) (omega arith))
+small_piece : (p n : ℕ) (b : List ℕ) → ((i : ℕ) → get_or b i 0 < 256) → (i : ℕ) → get_or (piece p n b) i 0 < 256
+small_piece p n b small i =
+    ⊎_elim (λ l. omega (arith, piece_at p n i b l, small (p + i)))
+    (λ past. omega (arith, get_or_past (piece p n b) i 0 (omega (arith, length-take n (drop p b)))))
+    (cases_lt i n)
+
+-- a piece of a piece
+piece_within : (p n i m : ℕ) (b : List ℕ) → i + m ≤ n → piece i m (piece p n b) ≡ piece (p + i) m b
+piece_within p n i m b fits =
+    let parts : n ≡ i + (n - i) = omega arith in
+    ap (λ j. piece i m (piece p j b)) parts ∙ ap (take m) (drop-take i (n - i) (drop p b)) ∙ take-take m (n - i) (drop i (drop p b)) (omega arith) ∙ ap (take m) (drop-drop i p b)
+
+be16_piece : (b : List ℕ) (p : ℕ) → be16 b p ≡ from_be_bytes w16 (piece p 2 b)
+be16_piece b p = omega (arith, at_zero b p, piece_at p 2 0 b, piece_at p 2 1 b)
+
+be32_piece : (b : List ℕ) (p : ℕ) → be32 b p ≡ from_be_bytes w32 (piece p 4 b)
+be32_piece b p = omega (arith, at_zero b p, piece_at p 4 0 b, piece_at p 4 1 b, piece_at p 4 2 b, piece_at p 4 3 b)
 
 read16 : (b : List ℕ) (p : ℕ) → ((i : ℕ) → get_or b i 0 < 256) → p + 2 ≤ length b → bytes16 (be16 b p) ≡ piece p 2 b
-read16 b p small fits = digits16 (get_or b p 0) (get_or b (p + 1) 0) (small p) (small (p + 1)) ∙ sym (first_two p b fits)
+read16 b p small fits = be_bytes_2 (piece p 2 b) (be16 b p) (length_piece p 2 b fits) (small_piece p 2 b small) (be16_piece b p)
 
 read32 : (b : List ℕ) (p : ℕ) → ((i : ℕ) → get_or b i 0 < 256) → p + 4 ≤ length b → bytes32 (be32 b p) ≡ piece p 4 b
-read32 b p small fits = digits32 (get_or b p 0) (get_or b (p + 1) 0) (get_or b (p + 2) 0) (get_or b (p + 3) 0) (small p) (small (p + 1)) (small (p + 2)) (small (p + 3)) ∙ sym (first_four p b fits)
+read32 b p small fits = be_bytes_4 (piece p 4 b) (be32 b p) (length_piece p 4 b fits) (small_piece p 4 b small) (be32_piece b p)
+
+write16 : (b : List ℕ) (p n : ℕ) → n < 65536 → bytes16 n ≡ piece p 2 b → be16 b p ≡ n
+write16 b p n small e = be16_piece b p ∙ ap (from_be_bytes w16) (sym e) ∙ from_be_bytes-to_be_bytes_2 n small
+
+write32 : (b : List ℕ) (p n : ℕ) → n < 4294967296 → bytes32 n ≡ piece p 4 b → be32 b p ≡ n
+write32 b p n small e = be32_piece b p ∙ ap (from_be_bytes w32) (sym e) ∙ from_be_bytes-to_be_bytes_4 n small
 
 -- A book that passes its checks is written out as the same bytes.
 first_one : (p : ℕ) (b : List ℕ) → p + 1 ≤ length b → piece p 1 b ≡ get_or b p 0 ∷ []
@@ -115,9 +108,10 @@ entry_piece b z k small fits right =
     ∙ ap (λ xs. piece p 1 b ++ xs) (sym (piece_join (p + 1) 2 2 b))
     ∙ sym (piece_join p 1 4 b)
 
-body_piece : (b : List ℕ) (z : ℕ) (k : Kind) → ((i : ℕ) → get_or b i 0 < 256) → book_length z ≤ length b → body_bytes (decoded_by z b) k ≡ piece (body_place z k) (4 * count z k) b
-body_piece b z k small fits =
-    from_pieces b (λ x. bytes32 ((decoded_by z b).figure k x)) (λ _. 4) (body_place z k) (count z k)
+body_piece : (b : List ℕ) (k : Kind) → ((i : ℕ) → get_or b i 0 < 256) → book_length (get_or b 1 0) ≤ length b → body_bytes (decoded b) k ≡ piece (body_place (get_or b 1 0) k) (4 * count (get_or b 1 0) k) b
+body_piece b k small fits =
+    let z = get_or b 1 0 in
+    from_pieces b (λ x. bytes32 ((decoded b).figure k x)) (λ _. 4) (body_place z k) (count z k)
     (λ x l. ap bytes32 (listed_inside z (λ j y. be32 b (body_place z j + 4 * y)) k x l)
     ∙ read32 b (body_place z k + 4 * x) small (omega (arith, body_within z k))
     ∙ ap (λ q. piece (body_place z k + q) 4 b) (sym (total_same 4 x)))
@@ -153,7 +147,7 @@ encoded_decoded b small none =
     let sizes : ℕ → ℕ = λ j. 4 * count z (kind_at j) in
     let bodies : bodies_bytes (decoded b) ≡ piece 37 (total sizes 7) b =
     from_pieces b (λ i. body_bytes (decoded b) (kind_at i)) sizes 37 7
-    (λ i l. body_piece b z (kind_at i) small (omega arith) ∙ ap (λ q. piece q (sizes i) b) (sym (body_total z i l))) in
+    (λ i l. body_piece b (kind_at i) small (omega arith) ∙ ap (λ q. piece q (sizes i) b) (sym (body_total z i l))) in
     let rest : piece 2 35 b ++ piece 37 (total sizes 7) b ≡ drop 2 b =
     sym (piece_join 2 35 (total sizes 7) b) ∙ take_all (35 + total sizes 7) (drop 2 b) (omega (arith, length-drop 2 b, bodies_total z)) in
     let whole : b ≡ get_or b 0 0 ∷ get_or b 1 0 ∷ drop 2 b = drop_more b 0 0 (omega arith) ∙ ap (λ xs. get_or b 0 0 ∷ xs) (drop_more b 1 0 (omega arith)) in
@@ -164,21 +158,6 @@ encoded_decoded b small none =
     ∙ sym whole
 
 -- The book of lawful figures passes its checks and tells the same figures.
-at_zero : (b : List ℕ) (p : ℕ) → get_or b (p + 0) 0 ≡ get_or b p 0
-at_zero b p = ap (λ q. get_or b q 0) (omega arith)
-
-write16 : (b : List ℕ) (p n : ℕ) → n < 65536 → get_or b p 0 ≡ get_or (bytes16 n) 0 0 → get_or b (p + 1) 0 ≡ get_or (bytes16 n) 1 0 → be16 b p ≡ n
-write16 b p n small high low = ap (λ x. x * 256 + get_or b (p + 1) 0) high ∙ ap (λ x. get_or (bytes16 n) 0 0 * 256 + x) low ∙ whole16 n small
-
-write32 : (b : List ℕ) (p n : ℕ) → n < 4294967296 → bytes32 n ≡ piece p 4 b → be32 b p ≡ n
-write32 b p n small e =
-    let at : (i : ℕ) → i < 4 → get_or b (p + i) 0 ≡ get_or (bytes32 n) i 0 = λ i l. sym (piece_at p 4 i b l) ∙ ap (λ xs. get_or xs i 0) (sym e) in
-    ap (λ x. x * 16777216 + get_or b (p + 1) 0 * 65536 + get_or b (p + 2) 0 * 256 + get_or b (p + 3) 0) (sym (at_zero b p) ∙ at 0 (omega arith))
-    ∙ ap (λ x. get_or (bytes32 n) 0 0 * 16777216 + x * 65536 + get_or b (p + 2) 0 * 256 + get_or b (p + 3) 0) (at 1 (omega arith))
-    ∙ ap (λ x. get_or (bytes32 n) 0 0 * 16777216 + get_or (bytes32 n) 1 0 * 65536 + x * 256 + get_or b (p + 3) 0) (at 2 (omega arith))
-    ∙ ap (λ x. get_or (bytes32 n) 0 0 * 16777216 + get_or (bytes32 n) 1 0 * 65536 + get_or (bytes32 n) 2 0 * 256 + x) (at 3 (omega arith))
-    ∙ whole32 n small
-
 entry_at : (f : Figures) (i : ℕ) → i < 7 → entry_bytes f.final_age (kind_at i) ≡ piece (entry_place (kind_at i)) 5 (encoded f)
 entry_at f i l =
     let z = f.final_age in
@@ -194,11 +173,11 @@ entry_right_is f i small l =
     let b = encoded f in
     let k = kind_at i in
     let p = entry_place k in
-    let at : (j : ℕ) → j < 5 → get_or b (p + j) 0 ≡ get_or (entry_bytes z k) j 0 = λ j m. sym (piece_at p 5 j b m) ∙ ap (λ xs. get_or xs j 0) (sym (entry_at f i l)) in
-    let after : (q r : ℕ) → q ≡ r → get_or b q 0 ≡ get_or b r 0 = λ q r e. ap (λ n. get_or b n 0) e in
-    let counted : be16 b (p + 1) ≡ count z k = write16 b (p + 1) (count z k) (omega (arith, count_most z k small)) (at 1 (omega arith)) (after (p + 1 + 1) (p + 2) (omega arith) ∙ at 2 (omega arith)) in
-    let placed : be16 b (p + 3) ≡ body_place z k = write16 b (p + 3) (body_place z k) (omega (arith, body_within z k)) (at 3 (omega arith)) (after (p + 3 + 1) (p + 4) (omega arith) ∙ at 4 (omega arith)) in
-    and_from _ _ (eq-eqb _ _ (sym (at_zero b p) ∙ at 0 (omega arith))) (and_from _ _ (eq-eqb _ _ counted) (eq-eqb _ _ placed))
+    let whole = entry_at f i l in
+    let ranked : get_or b p 0 ≡ rank k = sym (at_zero b p) ∙ sym (piece_at p 5 0 b (omega arith)) ∙ ap (λ xs. get_or xs 0 0) (sym whole) in
+    let counted : be16 b (p + 1) ≡ count z k = write16 b (p + 1) (count z k) (omega (arith, count_most z k small)) (ap (piece 1 2) whole ∙ piece_within p 5 1 2 b (omega arith)) in
+    let placed : be16 b (p + 3) ≡ body_place z k = write16 b (p + 3) (body_place z k) (omega (arith, body_within z k)) (ap (piece 3 2) whole ∙ piece_within p 5 3 2 b (omega arith)) in
+    and_from _ _ (eq-eqb _ _ ranked) (and_from _ _ (eq-eqb _ _ counted) (eq-eqb _ _ placed))
 
 body_at : (f : Figures) (i : ℕ) → i < 7 → body_bytes f (kind_at i) ≡ piece (body_place f.final_age (kind_at i)) (4 * count f.final_age (kind_at i)) (encoded f)
 body_at f i l =
@@ -257,5 +236,4 @@ reread told (Ok t) f buffer after part n lawful room long filled cut answer =
 reread told (Err e) f buffer after part n lawful room long filled cut answer =
     let same : part ≡ encoded f = cut ∙ ap (take n) filled ∙ take_at (encoded f) (drop (book_length f.final_age) buffer) n (length_encoded f ∙ sym long) in
     let none : book_fault part ≡ None = ap book_fault same ∙ encoded_passes f lawful in
-    let z : ◌≡◌ {A = ℕ} 0 1 = cc in
-    absurd (omega arith)
+    absurd cc

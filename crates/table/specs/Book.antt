@@ -1,5 +1,5 @@
 -- The table book: its layout, the figures that it tells, the bytes that tell figures, and what it is refused for. Assumes nothing.
-use Rattle.std.specs.Prelude.{ℕ, zero, suc, ◌+◌, ◌-◌, ◌*◌, ◌/◌, ◌%◌, Bool, not, ◌&&◌, ◌||◌, List, [], ◌∷◌, ◌++◌, length, take, drop, Option, ◌==◌, nat_le, nat_lt, slice_index, slice_index_or}
+use Rattle.std.specs.Prelude.{◌≡◌, ℕ, zero, suc, ◌+◌, ◌-◌, ◌*◌, ◌/◌, ◌%◌, ◌<◌, ◌≤◌, Bool, not, ◌&&◌, ◌||◌, List, [], ◌∷◌, ◌++◌, length, take, drop, Option, None, ◌==◌, nat_le, nat_lt, slice_index, slice_index_or}
 use Rattle.fault.specs.declared.Fault.{Fault}
 use Rattle.fault.specs.declared.Refusal.TheVariants.{Stub, Edition, FinalAge, Contents, Length, Figure, Exits, Seam, OpenEnd, Buffer}
 use Rattle.basis.specs.declared.kind.Kind.{Kind}
@@ -48,12 +48,9 @@ body_place z k = 37 + 4 * figures_before z k
 abbrev pub book_length : ℕ → ℕ
 book_length z = 8 * z + 2457
 
--- the figures that a book tells under a final age, and those under its own
-abbrev pub decoded_by : ℕ → List ℕ → Figures
-decoded_by z b = listed z (λ k x. be32 b (body_place z k + 4 * x))
-
+-- the figures that a book tells, under its own final age
 abbrev pub decoded : List ℕ → Figures
-decoded b = decoded_by (slice_index b 1) b
+decoded b = let z = slice_index b 1 in listed z (λ k x. be32 b (body_place z k + 4 * x))
 
 -- the book that tells figures
 abbrev pub entry_bytes : ℕ → Kind → List ℕ
@@ -96,6 +93,10 @@ contents_fault b z = first_below 7 (λ i. entry_fault b z (kind_at i))
 
 abbrev pub length_fault : List ℕ → ℕ → Option Fault
 length_fault b z = refuse_if (not (length b == book_length z)) (fault Length 0 0)
+
+-- a check of ages that passes below start, and from there to the end refuses where a law is broken
+abbrev pub ChecksAges : ℕ → ℕ → (ℕ → Bool → Type 0) → (ℕ → Fault) → (ℕ → Option Fault) → Type 0
+ChecksAges start end breaks refusal check = ((x : ℕ) → x < start → check x ≡ None) × ((x : ℕ) (broken : Bool) → start ≤ x → x < end → breaks x broken → check x ≡ refuse_if broken (refusal x))
 
 -- Of its figures: the first above its limit, by kind and then by age,
 abbrev pub limit_fault_at : Figures → Kind → ℕ → Option Fault

@@ -1,19 +1,13 @@
 -- The figures that the rows of a table basis stand for. Assumes nothing.
-use Rattle.std.specs.Prelude.{ℕ, List, slice_index}
+use Rattle.std.specs.Prelude.{ℕ, ◌-◌, List, [], slice_index, slice_index_or}
 use Rattle.basis.specs.declared.kind.Kind.{Kind}
-use Rattle.basis.specs.declared.kind.Kind.TheVariants.{Invalidity, ActiveDeath, InvalidDeath, PopulationDeath, WidowDeath, Married, SpouseAge}
 use Rattle.table.specs.declared.rows.Rows.{Rows}
-use Rattle.basis.specs.Figures.{Figures, Lawful, Aged, Limited, Exits, Seamless, Closed, listed}
+use Rattle.basis.specs.Figures.{Figures, Lawful, Aged, Limited, Exits, Seamless, Closed, listed, rank}
 use Rattle.basis.specs.Listed.{listed_outside}
 
+-- a kind's row stands at its place in the kinds' order
 abbrev pub row_of : Rows → Kind → List ℕ
-row_of r Invalidity = r.invalidity
-row_of r ActiveDeath = r.active_death
-row_of r InvalidDeath = r.invalid_death
-row_of r PopulationDeath = r.population_death
-row_of r WidowDeath = r.widow_death
-row_of r Married = r.married
-row_of r SpouseAge = r.spouse_age
+row_of r k = slice_index_or r.lists (rank k - 1) []
 
 abbrev pub tabled : Rows → Figures
 tabled r = listed r.final_age (λ k x. slice_index (row_of r k) x)

@@ -15,35 +15,27 @@ fn put(buffer: &mut [u8], place: usize, bytes: &[u8])
     buffer[place..place + bytes.len()].copy_from_slice(bytes);
 }
 
-fn put_entry(buffer: &mut [u8], final_age: u32, kind: Kind)
-    requires { (final_age ≤ 80) × (37 ≤ length buffer.old) }
-    ensures { buffer.new ≡ placed buffer.old (entry_place kind) (entry_bytes final_age kind) }
+fn put_entry(buffer: &mut [u8], rows: &Rows, kind: Kind)
+    requires { book_length rows.now.final_age ≤ length buffer.old }
+    ensures { buffer.new ≡ placed buffer.old (entry_place kind) (entry_bytes rows.now.final_age kind) }
 {
-    let place = entry_place(kind);
-    put(buffer, place, &[kind.rank()]);
-    put(
-        buffer,
-        place + 1,
-        &(kind.count(final_age) as u16).to_be_bytes(),
-    );
-    put(
-        buffer,
-        place + 3,
-        &(body_place(kind, final_age) as u16).to_be_bytes(),
-    );
+    let [count_high, count_low] = (kind.count(rows.final_age) as u16).to_be_bytes();
+    let [body_high, body_low] = (body_place(kind, rows.final_age) as u16).to_be_bytes();
+    let entry = [kind.rank(), count_high, count_low, body_high, body_low];
+    put(buffer, entry_place(kind), &entry);
 }
 
-fn put_contents(buffer: &mut [u8], final_age: u32)
-    requires { (final_age ≤ 80) × (37 ≤ length buffer.old) }
-    ensures { buffer.new ≡ placed buffer.old 2 (contents_bytes final_age) }
+fn put_contents(buffer: &mut [u8], rows: &Rows)
+    requires { book_length rows.now.final_age ≤ length buffer.old }
+    ensures { buffer.new ≡ placed buffer.old 2 (contents_bytes rows.now.final_age) }
 {
     for kind in Kind::ALL {
-        put_entry(buffer, final_age, kind);
+        put_entry(buffer, rows, kind);
     }
 }
 
 fn put_body(buffer: &mut [u8], rows: &Rows, kind: Kind)
-    requires { (rows.now.final_age ≤ 80) × (book_length rows.now.final_age ≤ length buffer.old) }
+    requires { book_length rows.now.final_age ≤ length buffer.old }
     ensures { buffer.new ≡ placed buffer.old (body_place rows.now.final_age kind) (body_bytes (tabled rows.now) kind) }
 {
     let place = body_place(kind, rows.final_age);
@@ -57,7 +49,7 @@ fn put_body(buffer: &mut [u8], rows: &Rows, kind: Kind)
 }
 
 fn put_bodies(buffer: &mut [u8], rows: &Rows)
-    requires { (rows.now.final_age ≤ 80) × (book_length rows.now.final_age ≤ length buffer.old) }
+    requires { book_length rows.now.final_age ≤ length buffer.old }
     ensures { buffer.new ≡ placed buffer.old 37 (bodies_bytes (tabled rows.now)) }
 {
     for kind in Kind::ALL {
@@ -67,10 +59,10 @@ fn put_bodies(buffer: &mut [u8], rows: &Rows)
 
 // Puts the book of the rows at the buffer's beginning.
 pub(crate) fn put_book(buffer: &mut [u8], rows: &Rows)
-    requires { (rows.now.final_age ≤ 80) × (book_length rows.now.final_age ≤ length buffer.old) }
+    requires { book_length rows.now.final_age ≤ length buffer.old }
     ensures { buffer.new ≡ written (tabled rows.now) buffer.old }
 {
     put(buffer, 0, &[EDITION, rows.final_age as u8]);
-    put_contents(buffer, rows.final_age);
+    put_contents(buffer, rows);
     put_bodies(buffer, rows);
 }

@@ -15,7 +15,7 @@ ghost use Rattle.basis.specs.StraightLine.{straight_line};
 ghost use Rattle.table.specs.Table.{tabled, tabled_lawful};
 
 use crate::book::book_length;
-use crate::book_reader::{check_contents, check_length, check_opening, read_rows};
+use crate::book_reader::Opened;
 use crate::book_writer::put_book;
 use crate::laws::check_figures;
 use crate::rows::Rows;
@@ -60,10 +60,9 @@ impl Table {
     fn from_book(book: &[u8]) -> Result<Table, Fault>
         ensures { Outcome result (book_fault book.now) (λ t. tabled t.rows ≡ decoded book.now) }
     {
-        let final_age = check_opening(book)?;
-        check_contents(book, final_age)?;
-        check_length(book, final_age)?;
-        let rows = read_rows(book, final_age);
+        let opened = Opened::open(book)?;
+        opened.check_contents()?;
+        let rows = opened.whole()?.rows();
         check_figures(&rows)?;
         Ok(Table { rows })
     }

@@ -1,75 +1,57 @@
-// The figures of a table basis as plain arrays, before anything is known of them.
+// The figures of a table basis as plain arrays, before the laws of a basis are known of them.
 ghost use Rattle.std.specs.Prelude.{◌≡◌, ℕ, ◌<◌, ◌≤◌, slice_index};
-ghost use Rattle.table.specs.Table.{row_of, tabled};
 
 use basis::interface::Basis;
 use basis::kind::{AGES, Kind};
 
 // How many figures a row has room for: one for each age.
-pub(crate) const ROW: usize = 121;
+const ROW: usize = 121;
 
 #[derive(Clone, Copy)]
 pub(crate) struct Rows {
     pub(crate) final_age: u32,
-    pub(crate) invalidity: [u32; ROW],
-    pub(crate) active_death: [u32; ROW],
-    pub(crate) invalid_death: [u32; ROW],
-    pub(crate) population_death: [u32; ROW],
-    pub(crate) widow_death: [u32; ROW],
-    pub(crate) married: [u32; ROW],
-    pub(crate) spouse_age: [u32; ROW],
+    // a row for each kind, in the kinds' order
+    lists: [[u32; ROW]; 7],
+    ghost old_enough: { 20 ≤ final_age },
+    ghost young_enough: { final_age ≤ 80 },
 }
 
 impl Rows {
+    ghost use Rattle.table.specs.Table.{row_of, tabled};
+
+    // The rows of the figures that a function tells by kind and age.
+    pub(crate) fn from_fn<F: Fn(Kind, u32) -> u32>(final_age: u32, figure: F) -> Rows
+        requires old_enough { 20 ≤ final_age }
+        requires young_enough { final_age ≤ 80 }
+        requires callable { F.IsAlwaysCallable figure }
+        ensures aged { result.final_age ≡ final_age }
+        ensures told { (k : Kind) (x : ℕ) → x < 121 → F.post figure k x (slice_index (row_of result k) x) }
+    {
+        let mut lists = [[0; ROW]; 7];
+        for kind in Kind::ALL {
+            let mut row = [0; ROW];
+            for age in 0..AGES {
+                row[age as usize] = figure(kind, age);
+            }
+            lists[kind as usize] = row;
+        }
+        Rows { final_age, lists }
+    }
+
     // The figures of any basis.
     pub(crate) fn of<B: Basis>(basis: &B) -> Rows
         ensures { tabled result ≡ B.figures basis.now }
     {
-        Rows {
-            final_age: basis.final_age(),
-            invalidity: row_of(basis, Kind::Invalidity),
-            active_death: row_of(basis, Kind::ActiveDeath),
-            invalid_death: row_of(basis, Kind::InvalidDeath),
-            population_death: row_of(basis, Kind::PopulationDeath),
-            widow_death: row_of(basis, Kind::WidowDeath),
-            married: row_of(basis, Kind::Married),
-            spouse_age: row_of(basis, Kind::SpouseAge),
-        }
-    }
-
-    pub(crate) fn row(&self, kind: Kind) -> &[u32; ROW]
-        ensures { result.now ≡ row_of self.now kind }
-    {
-        match kind {
-            Kind::Invalidity => &self.invalidity,
-            Kind::ActiveDeath => &self.active_death,
-            Kind::InvalidDeath => &self.invalid_death,
-            Kind::PopulationDeath => &self.population_death,
-            Kind::WidowDeath => &self.widow_death,
-            Kind::Married => &self.married,
-            Kind::SpouseAge => &self.spouse_age,
-        }
+        Rows::from_fn(basis.final_age(), |kind, age| basis.figure(kind, age))
     }
 
     // The list's figure at an age, 0 at an age that the list has not.
     pub(crate) fn figure(&self, kind: Kind, age: u32) -> u32
-        requires { self.now.final_age ≤ 80 }
         ensures { result ≡ (tabled self.now).figure kind age }
     {
         if age >= kind.count(self.final_age) {
             return 0;
         }
-        self.row(kind)[age as usize]
+        self.lists[kind as usize][age as usize]
     }
-}
-
-// A list of a basis, from age 0 to the last.
-fn row_of<B: Basis>(basis: &B, kind: Kind) -> [u32; ROW]
-    ensures { (x : ℕ) → x < 121 → slice_index result x ≡ (B.figures basis.now).figure kind x }
-{
-    let mut row = [0; ROW];
-    for age in 0..AGES {
-        row[age as usize] = basis.figure(kind, age);
-    }
-    row
 }

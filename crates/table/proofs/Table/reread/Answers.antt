@@ -1,14 +1,12 @@
 use Rattle.std.proofs.Common.{◌≡◌, ◌-◌, take, ap, arith}
-use Rattle.basis.specs.Figures.{Lawful}
-use Rattle.table.specs.Table.{tabled}
-use Rattle.basis.specs.Listed.{listed_outside}
+use Rattle.table.specs.Table.{tabled, tabled_lawful}
 use Rattle.table.proofs.RoundTrips.{reread}
 use Rattle.table.proofs.Table.reread.Goals as goal
 
 pub returns : goal.returns
 returns c =
     let self = c.args.self.now in
-    let lawful : Lawful (tabled self.rows) = record { aged = self.aged; limited = self.limited; ended = listed_outside self.rows.final_age _; exits = self.exits; seamless = self.seamless; closed = self.closed } in
+    let lawful = tabled_lawful self.rows self.aged self.limited self.exits self.seamless self.closed in
     let n = c.in_ok-length.length in
     let whole : n - 0 ≡ n = omega arith in
     let wrote = c.in_ok-length.ensures.answer in

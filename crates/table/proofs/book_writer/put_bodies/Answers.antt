@@ -1,8 +1,7 @@
-use Rattle.std.proofs.Common.{◌≡◌, ap, ◌∙◌, arith}
-use Rattle.table.specs.Book.{placed, in_order, body_bytes, body_place, kind_at}
+use Rattle.std.proofs.Common.{◌∙◌, arith}
+use Rattle.table.specs.Book.{body_bytes, body_place, kind_at}
 use Rattle.table.specs.Table.{tabled}
-use Rattle.table.proofs.Books.{body_within}
-use Rattle.table.proofs.Placed.{placed_order_none, placed_order_more, bodies_before}
+use Rattle.table.proofs.Placed.{body_within, placed_order_none, placed_order_more, bodies_before}
 use Rattle.table.proofs.book_writer.put_bodies.Goals as goal
 
 pub loop-kind-init : goal.loop-kind-init
@@ -15,8 +14,3 @@ loop-kind-preserved c =
     c.put_body.ensures
     ∙ placed_order_more c.args.buffer.now c.loop-kind.buffer 37 i (body_place f.final_age (kind_at i)) (λ j. body_bytes f (kind_at j)) c.loop-kind.invariant
     (bodies_before f i c.loop-kind-test.true) (omega (arith, body_within f.final_age (kind_at i)))
-
-pub returns : goal.returns
-returns c =
-    let all : c.loop-kind.kind-index ≡ 7 = omega arith in
-    c.loop-kind.invariant ∙ ap (λ n. placed c.args.buffer.now 37 (in_order n (λ i. body_bytes (tabled c.args.rows.now) (kind_at i)))) all

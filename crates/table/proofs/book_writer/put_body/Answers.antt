@@ -1,8 +1,7 @@
 use Rattle.std.proofs.Common.{ℕ, ◌+◌, ◌*◌, List, refl, ap, ◌∙◌, arith}
 use Rattle.table.specs.Book.{placed, bytes32}
 use Rattle.table.specs.Table.{tabled}
-use Rattle.table.proofs.Placed.{placed_order_none, placed_order_more, length_order}
-use Rattle.table.proofs.Books.{body_within}
+use Rattle.table.proofs.Placed.{body_within, placed_order_none, placed_order_more, length_order}
 use Rattle.table.proofs.book_writer.put_body.Goals as goal
 
 pub loop-age-init : goal.loop-age-init
