@@ -29,7 +29,8 @@ impl StraightLine {
             return Err(Fault::within(Part::Basis, Refusal::FinalAge, 0, 0));
         }
         if invalidity > GREATEST_INVALIDITY {
-            return Err(Fault::within(Part::Basis, Refusal::Figure, 1, 0));
+            let place = Kind::Invalidity.rank() as u32;
+            return Err(Fault::within(Part::Basis, Refusal::Figure, place, 0));
         }
         Ok(StraightLine {
             final_age,

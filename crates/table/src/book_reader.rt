@@ -26,14 +26,14 @@ impl<'a> Opened<'a> {
         ensures { Outcome result (opening_fault book.now) (λ o. o.book.now ≡ book.now) }
     {
         if book.len() < CONTENTS_END {
-            return Err(Fault::new(Refusal::Stub, 0, 0));
+            return Err(Refusal::Stub.into());
         }
         if book[0] != EDITION {
-            return Err(Fault::new(Refusal::Edition, 0, 0));
+            return Err(Refusal::Edition.into());
         }
         let final_age = book[1] as u32;
-        if final_age < LEAST_FINAL_AGE || final_age > GREATEST_FINAL_AGE {
-            return Err(Fault::new(Refusal::FinalAge, 0, 0));
+        if !(LEAST_FINAL_AGE..=GREATEST_FINAL_AGE).contains(&final_age) {
+            return Err(Refusal::FinalAge.into());
         }
         Ok(Opened { book, final_age })
     }
@@ -75,7 +75,7 @@ impl<'a> Opened<'a> {
         ensures { Outcome result (length_fault self.entry.book.now self.entry.final_age) (λ w. w.opened ≡ self.entry) }
     {
         if self.book.len() != book_length(self.final_age) {
-            return Err(Fault::new(Refusal::Length, 0, 0));
+            return Err(Refusal::Length.into());
         }
         Ok(Whole { opened: self })
     }

@@ -77,15 +77,19 @@ fn refuse_first<F: Fn(u32) -> bool>(
     }
 }
 
+fn check_end(rows: &Rows, kind: Kind) -> Result<(), Fault>
+    ensures { Outcome result (end_fault (tabled rows.now) kind) (λ _. Unit {0}) }
+{
+    if rows.figure(kind, LAST_AGE) != CERTAIN {
+        return Err(Fault::new(Refusal::OpenEnd, kind.rank() as u32, LAST_AGE));
+    }
+    Ok(())
+}
+
 // Of the whole population's last death the seam has told already.
 fn check_open_end(rows: &Rows) -> Result<(), Fault>
     ensures { Outcome result (open_end_fault (tabled rows.now)) (λ _. Unit {0}) }
 {
-    if rows.figure(Kind::InvalidDeath, LAST_AGE) != CERTAIN {
-        return Err(Fault::new(Refusal::OpenEnd, 3, LAST_AGE));
-    }
-    if rows.figure(Kind::WidowDeath, LAST_AGE) != CERTAIN {
-        return Err(Fault::new(Refusal::OpenEnd, 5, LAST_AGE));
-    }
-    Ok(())
+    check_end(rows, Kind::InvalidDeath)?;
+    check_end(rows, Kind::WidowDeath)
 }

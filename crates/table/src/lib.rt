@@ -75,7 +75,7 @@ impl Table {
     {
         let length = book_length(self.rows.final_age);
         if buffer.len() < length {
-            return Err(Fault::new(Refusal::Buffer, 0, 0));
+            return Err(Refusal::Buffer.into());
         }
         put_book(buffer, &self.rows);
         Ok(length)
