@@ -5,12 +5,12 @@ use Rattle.std.proofs.lemmas.List.Sums.{sum_by-cons, sum_by-set}
 use Rattle.basis.specs.Figures.{Figures}
 use Rattle.valuation.specs.declared.pair.Pair.{Pair}
 use Rattle.stock.specs.declared.record.Record.{Record}
-use Rattle.stock.specs.Slots.{low_of, high_of, Holds, Vacant, has_key, pair_in, found}
+use Rattle.stock.specs.Slots.{low_of, high_of, Holds, Vacant, pair_in, found}
 use Rattle.stock.specs.Register.{Promise, Entry, entry, in_force, exchanged, struck}
 use Rattle.stock.specs.Law.{pair_of}
 use Rattle.stock.specs.Told.{Apart, Once, pair_for, Worth, Worthy, Shows}
 use Rattle.stock.proofs.Keys.{some_inner}
-use Rattle.stock.proofs.Places.{Own, count_of, own_of, none_own, found_put, apart_put, clear_none, clear_own}
+use Rattle.stock.proofs.Places.{Own, count_of, filled, own_of, none_own, found_put, apart_put, clear_none, clear_own}
 use Rattle.stock.proofs.Registers.{found_entered, once_entered, found_exchanged, once_exchanged, all_exchanged, sum_exchanged, found_struck, once_struck, all_struck, sum_struck}
 
 -- nothing at all
@@ -66,13 +66,9 @@ module _ (f : Figures) (interest t : ℕ) where
   pub present : (es : List Entry) (rs : List (Option Record)) (key i : ℕ) → Shows f interest t es rs → Holds rs key i → Present es rs key i
   present es rs key i shows held = step (in_force es key) refl (sym held.pair ∙ shows.look key)
     where
-      filled : (r : Option Record) → has_key key r ≡ true → is_some (pair_in r) ≡ true
-      filled None has = has
-      filled (Some r) has = refl
-
       step : (o : Option Promise) → in_force es key ≡ o → pair_in (get_or rs i None) ≡ pair_for f interest t (in_force es key) → Present es rs key i
       step (Some p) e same = record { old = p; stands = e; pair = same ∙ ap (pair_for f interest t) e }
-      step None e same = absurd (false≢true (sym (ap is_some (same ∙ ap (pair_for f interest t) e)) ∙ filled (get_or rs i None) held.has))
+      step None e same = absurd (false≢true (sym (ap is_some (same ∙ ap (pair_for f interest t) e)) ∙ filled key (get_or rs i None) held.has))
 
   pub absent : (es : List Entry) (rs : List (Option Record)) (key : ℕ) → Shows f interest t es rs → found rs key ≡ None → in_force es key ≡ None
   absent es rs key shows none = step (in_force es key) (sym (shows.look key) ∙ none)
