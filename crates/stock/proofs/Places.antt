@@ -1,5 +1,5 @@
 -- The places of a stock, as they are searched and changed. Assumes nothing.
-use Rattle.std.proofs.Common.{◌≡◌, ℕ, zero, suc, ◌+◌, ◌-◌, ◌*◌, ◌<◌, ◌≤◌, Bool, true, false, cond, not, eqb, ltb, List, [], ◌∷◌, length, get_or, set, remove, position, is_some, Some, None, MatchOption, ok_or, sum_by, count_by, Option, sym, refl, ap, ◌∙◌, subst, arith}
+use Rattle.std.proofs.Common.{◌≡◌, ℕ, zero, suc, ◌+◌, ◌-◌, ◌*◌, ◌<◌, ◌≤◌, Bool, true, false, cond, not, eqb, ltb, List, [], ◌∷◌, length, get_or, set, remove, position, is_some, is_none, Some, None, MatchOption, ok_or, sum_by, count_by, Option, sym, refl, ap, ◌∙◌, subst, arith}
 use Rattle.std.specs.List.{position_or_len}
 use Rattle.std.proofs.lemmas.Bool.{true≢false, false≢true, eqb-true, eq-eqb, ne_eqb, ltb-false}
 use Rattle.std.proofs.lemmas.List.{length-set}
@@ -11,12 +11,12 @@ use Rattle.fault.specs.declared.Refusal.TheVariants.{Known, Unknown, Full}
 use Rattle.fault.specs.Faults.{fault, refuse_if, first_of, Outcome}
 use Rattle.valuation.specs.declared.pair.Pair.{Pair}
 use Rattle.stock.specs.declared.record.Record.{Record}
-use Rattle.stock.specs.Slots.{low_of, high_of, taken, has_key, pair_in, found, Holds, Vacant, vacancy_fault, missing_fault}
+use Rattle.stock.specs.Slots.{low_of, high_of, has_key, pair_in, found, Holds, Vacant, vacancy_fault, missing_fault}
 use Rattle.stock.specs.Told.{Apart}
 use Rattle.stock.proofs.Keys.{swap, skip, same_key, turned}
 
 abbrev pub count_of : Option Record → ℕ
-count_of r = cond (taken r) 1 0
+count_of r = cond (is_some r) 1 0
 
 -- a search that answers nothing has passed every place
 none_passes : (p : Option Record → Bool) (rs : List (Option Record)) → position p rs ≡ None → (k : ℕ) → k < length rs → p (get_or rs k None) ≡ false
@@ -49,34 +49,34 @@ pub known_is : (rs : List (Option Record)) (key : ℕ) (o : Option ℕ) → leng
 known_is rs key None full e some = absurd (false≢true some)
 known_is rs key (Some i) full e some =
     let holds = sought rs key (Some i) full e in
-    ap (λ t. first_of (refuse_if t (fault Known 0 0)) (refuse_if (eqb (count_by taken rs) 512) (fault Full 0 0))) (ap is_some holds.pair ∙ filled key _ holds.has)
+    ap (λ t. first_of (refuse_if t (fault Known 0 0)) (refuse_if (eqb (count_by is_some rs) 512) (fault Full 0 0))) (ap is_some holds.pair ∙ filled key _ holds.has)
 
 -- how many places are taken, where all are, and where one is not
-all_taken : (rs : List (Option Record)) → ((k : ℕ) → k < length rs → not (taken (get_or rs k None)) ≡ false) → count_by taken rs ≡ length rs
+all_taken : (rs : List (Option Record)) → ((k : ℕ) → k < length rs → is_none (get_or rs k None) ≡ false) → count_by is_some rs ≡ length rs
 all_taken [] all = refl
 all_taken (None ∷ rs) all = absurd (true≢false (all 0 (omega arith)))
 all_taken (Some r ∷ rs) all = omega (arith, sum_by-cons count_of (Some r) rs, all_taken rs (λ k inside. all (suc k) (omega arith)))
 
-one_free : (rs : List (Option Record)) (i : ℕ) → i < length rs → get_or rs i None ≡ None → count_by taken rs < length rs
-one_free rs i inside free = omega (arith, sum_by-remove count_of rs i None inside, ap count_of free, count_by-le-length taken (remove rs i), length-remove rs i inside)
+one_free : (rs : List (Option Record)) (i : ℕ) → i < length rs → get_or rs i None ≡ None → count_by is_some rs < length rs
+one_free rs i inside free = omega (arith, sum_by-remove count_of rs i None inside, ap count_of free, count_by-le-length is_some (remove rs i), length-remove rs i inside)
 
-pub vacancy_of : (rs : List (Option Record)) (key : ℕ) (o q : Option ℕ) → length rs ≡ 512 → o ≡ position (has_key key) rs → is_some o ≡ false → q ≡ position (λ r. not (taken r)) rs → Outcome (ok_or q (fault Full 0 0)) (vacancy_fault rs key) (Vacant rs key)
+pub vacancy_of : (rs : List (Option Record)) (key : ℕ) (o q : Option ℕ) → length rs ≡ 512 → o ≡ position (has_key key) rs → is_some o ≡ false → q ≡ position is_none rs → Outcome (ok_or q (fault Full 0 0)) (vacancy_fault rs key) (Vacant rs key)
 vacancy_of rs key (Some i) q full e none at = absurd (true≢false none)
 vacancy_of rs key None None full e none at =
     let new = sought rs key None full e in
-    ap (λ p. first_of (refuse_if (is_some p) (fault Known 0 0)) (refuse_if (eqb (count_by taken rs) 512) (fault Full 0 0))) new
+    ap (λ p. first_of (refuse_if (is_some p) (fault Known 0 0)) (refuse_if (eqb (count_by is_some rs) 512) (fault Full 0 0))) new
     ∙ ap (λ t. refuse_if t (fault Full 0 0)) (eq-eqb _ _ (all_taken rs (none_passes _ rs (sym at)) ∙ full))
 vacancy_of rs key None (Some i) full e none at =
     let new = sought rs key None full e in
-    let here = position-Some (λ r. not (taken r)) rs i None (sym at) in
+    let here = position-Some is_none rs i None (sym at) in
     let free = none_of (get_or rs i None) here.1 in
     let room = one_free rs i here.0 free in (
-      ap (λ p. first_of (refuse_if (is_some p) (fault Known 0 0)) (refuse_if (eqb (count_by taken rs) 512) (fault Full 0 0))) new
+      ap (λ p. first_of (refuse_if (is_some p) (fault Known 0 0)) (refuse_if (eqb (count_by is_some rs) 512) (fault Full 0 0))) new
           ∙ ap (λ t. refuse_if t (fault Full 0 0)) (ne_eqb _ _ (λ same. omega arith)),
       record { inside = omega (arith, here.0, full); free = free; none = new },
     )
   where
-    none_of : (r : Option Record) → not (taken r) ≡ true → r ≡ None
+    none_of : (r : Option Record) → is_none r ≡ true → r ≡ None
     none_of None e = refl
     none_of (Some r) e = absurd (false≢true e)
 

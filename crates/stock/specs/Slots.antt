@@ -6,7 +6,7 @@ use Rattle.fault.specs.Faults.{fault, refuse_if, first_of}
 use Rattle.valuation.specs.declared.pair.Pair.{Pair}
 use Rattle.stock.specs.declared.record.Record.{Record}
 
--- what a place adds to the lower and to the upper total, and whether it counts
+-- what a place adds to the lower and to the upper total
 abbrev pub low_of : Option Record → ℕ
 low_of None = 0
 low_of (Some r) = r.pair.lower
@@ -14,10 +14,6 @@ low_of (Some r) = r.pair.lower
 abbrev pub high_of : Option Record → ℕ
 high_of None = 0
 high_of (Some r) = r.pair.upper
-
-abbrev pub taken : Option Record → Bool
-taken None = false
-taken (Some r) = true
 
 abbrev pub has_key : ℕ → Option Record → Bool
 has_key key None = false
@@ -46,7 +42,7 @@ pub record Vacant (rs : List (Option Record)) (key i : ℕ) : Type 0 where
 
 -- why there is no place for a new key, and none of a key
 abbrev pub vacancy_fault : List (Option Record) → ℕ → Option Fault
-vacancy_fault rs key = first_of (refuse_if (is_some (found rs key)) (fault Known 0 0)) (refuse_if (count_by taken rs == 512) (fault Full 0 0))
+vacancy_fault rs key = first_of (refuse_if (is_some (found rs key)) (fault Known 0 0)) (refuse_if (count_by is_some rs == 512) (fault Full 0 0))
 
 abbrev pub missing_fault : List (Option Record) → ℕ → Option Fault
 missing_fault rs key = refuse_if (not (is_some (found rs key))) (fault Unknown 0 0)

@@ -1,7 +1,7 @@
 // The inner table of a stock: its places, and the totals carried forward.
-ghost use Rattle.std.specs.Prelude.{◌≡◌, ◌<◌, length, replicate, if◌then◌else◌, Some, None, sum_by, count_by, not, position, slice_set};
+ghost use Rattle.std.specs.Prelude.{◌≡◌, ◌<◌, length, replicate, if◌then◌else◌, Some, None, is_none, is_some, sum_by, count_by, position, slice_set};
 ghost use Rattle.fault.specs.Faults.{Outcome};
-ghost use Rattle.stock.specs.Slots.{Holds, Vacant, found, has_key, high_of, low_of, missing_fault, taken, vacancy_fault};
+ghost use Rattle.stock.specs.Slots.{Holds, Vacant, found, has_key, high_of, low_of, missing_fault, vacancy_fault};
 
 use crate::record::Record;
 use fault::{Fault, Refusal};
@@ -22,7 +22,7 @@ pub(crate) struct Slots {
     ghost full: { length records ≡ 512 },
     ghost lows: { lower ≡ sum_by low_of records },
     ghost highs: { upper ≡ sum_by high_of records },
-    ghost counted: { count ≡ count_by taken records },
+    ghost counted: { count ≡ count_by is_some records },
 }
 
 // What a place adds to the totals.
@@ -70,7 +70,7 @@ impl Slots {
 
     // A free place, if there is one.
     fn free(&self) -> Option<usize>
-        ensures { result ≡ position (λ place. not (taken place)) self.now.records }
+        ensures { result ≡ position is_none self.now.records }
     {
         self.records.iter().position(|place| place.is_none())
     }
