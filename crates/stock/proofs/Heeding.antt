@@ -95,7 +95,7 @@ module _ (f : Figures) (interest t : ℕ) where
       (same, subst (Enclosing f interest t es) (sym same) (enclosing f interest t es shows.worth))
 
   -- calls that are refused and granted alike are heeded alike
-  heeds_as : {X : Type 0} (before later : List (Option Record)) (c d : Call) (r : Result X Fault) (P : List Entry → X → Type 0) → ((es : List Entry) → refusal f.final_age es c ≡ refusal f.final_age es d) → ((es : List Entry) → granted es c ≡ granted es d)
+  pub heeds_as : {X : Type 0} (before later : List (Option Record)) (c d : Call) (r : Result X Fault) (P : List Entry → X → Type 0) → ((es : List Entry) → refusal f.final_age es c ≡ refusal f.final_age es d) → ((es : List Entry) → granted es c ≡ granted es d)
       → Heeds f interest t before later c r P → Heeds f interest t before later d r P
   heeds_as before later c d r P refused same heeds h had =
       let z = f.final_age in
@@ -106,12 +106,9 @@ module _ (f : Figures) (interest t : ℕ) where
         subst (λ x. Shows f interest t x later) (fold_push (after z) [] h c ∙ alike ∙ sym (fold_push (after z) [] h d)) one.1,
       )
 
-  -- and so are calls with columns of different lengths
-  pub admit_column : {X : Type 0} (before later : List (Option Record)) (k : ℕ) (p : Promise) (m n : ℕ) (r : Result X Fault) (P : List Entry → X → Type 0) → ltb m 512 ≡ ltb n 512 → Heeds f interest t before later (Admit k p m) r P → Heeds f interest t before later (Admit k p n) r P
-  admit_column before later k p m n r P same =
-      heeds_as before later (Admit k p m) (Admit k p n) r P
-      (λ es. ap (λ o. first_of o (first_of (refuse_if (is_some (in_force es k)) (fault Known 0 0)) (refuse_if (eqb (length es) 512) (fault Full 0 0)))) (column_as f.final_age p m n same)) (λ es. refl)
+-- calls with columns that are both long enough or both too short are refused alike
+pub admit_column : (k : ℕ) (p : Promise) (m n : ℕ) → ltb m 512 ≡ ltb n 512 → (z : ℕ) (es : List Entry) → refusal z es (Admit k p m) ≡ refusal z es (Admit k p n)
+admit_column k p m n same z es = ap (λ o. first_of o (first_of (refuse_if (is_some (in_force es k)) (fault Known 0 0)) (refuse_if (eqb (length es) 512) (fault Full 0 0)))) (column_as z p m n same)
 
-  pub amend_column : {X : Type 0} (before later : List (Option Record)) (k : ℕ) (p : Promise) (m n : ℕ) (r : Result X Fault) (P : List Entry → X → Type 0) → ltb m 512 ≡ ltb n 512 → Heeds f interest t before later (Amend k p m) r P → Heeds f interest t before later (Amend k p n) r P
-  amend_column before later k p m n r P same =
-      heeds_as before later (Amend k p m) (Amend k p n) r P (λ es. ap (λ o. first_of o (unknown_fault es k)) (column_as f.final_age p m n same)) (λ es. refl)
+pub amend_column : (k : ℕ) (p : Promise) (m n : ℕ) → ltb m 512 ≡ ltb n 512 → (z : ℕ) (es : List Entry) → refusal z es (Amend k p m) ≡ refusal z es (Amend k p n)
+amend_column k p m n same z es = ap (λ o. first_of o (unknown_fault es k)) (column_as z p m n same)

@@ -3,3 +3,5 @@ pub mod Register
 pub mod Law
 pub mod Told
 pub mod Handed
+pub mod Stocks
+pub mod Runs
