@@ -5,3 +5,4 @@ pub mod Told
 pub mod Handed
 pub mod Stocks
 pub mod Runs
+pub mod Printed

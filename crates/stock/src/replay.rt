@@ -54,7 +54,11 @@ impl<B: Basis> Stock<B> {
 pub fn replay<B: Basis + Drop>(run: Run<'_, B>) -> Pair
     ensures { TotalAfter B.figures run.entry result }
 {
-    let Run { basis, terms, calls } = run;
+    let Run {
+        basis,
+        terms,
+        calls,
+    } = run;
     let mut stock = Stock::open(basis, terms);
     stock.run(calls);
     stock.total()
