@@ -2,6 +2,7 @@
 use Rattle.std.proofs.Common.{◌≡◌, ℕ, Bool, true, false, cond, not, ◌||◌, eqb, ltb, List, [], ◌∷◌, ◌++◌, length, is_some, Some, None, Ok, Err, sum_by, Option, Result, sym, refl, ap, ◌∙◌, subst}
 use Rattle.std.specs.List.{AllByRecursion}
 use Rattle.std.proofs.lemmas.Bool.{false≢true}
+use Rattle.std.proofs.lemmas.Option.{same_Some}
 use Rattle.std.proofs.lemmas.List.Sums.{fold_push}
 use Rattle.fault.specs.declared.Fault.{Fault}
 use Rattle.fault.specs.declared.Refusal.TheVariants.{Age, Span, Column, Known, Unknown, Full}
@@ -15,7 +16,6 @@ use Rattle.stock.specs.Slots.{low_of, high_of, found, vacancy_fault, missing_fau
 use Rattle.stock.specs.Register.{Promise, Entry, Call, Admit, Amend, in_force, promise_fault, unknown_fault, refusal, granted, unless, after, register}
 use Rattle.stock.specs.Law.{pair_of, totals, Enclosing}
 use Rattle.stock.specs.Told.{pair_for, Worth, Worthy, Shows, Had, Heeds, PairOf, TotalOf}
-use Rattle.stock.proofs.Keys.{some_inner}
 use Rattle.stock.proofs.Totals.{enclosing}
 
 -- the first fault of two checks
@@ -72,7 +72,7 @@ module _ (f : Figures) (interest t : ℕ) where
   worth_of (e ∷ es) key p worth there = step (worth_of es key p worth.1) (eqb e.key key) there
     where
       step : (in_force es key ≡ Some p → Worthy f interest t p (pair_of f interest t p)) → (b : Bool) → cond b (Some e.promise) (in_force es key) ≡ Some p → Worthy f interest t p (pair_of f interest t p)
-      step next true here = subst (λ q. Worthy f interest t q (pair_of f interest t q)) (some_inner here) worth.0
+      step next true here = subst (λ q. Worthy f interest t q (pair_of f interest t q)) (same_Some _ _ here) worth.0
       step next false past = next past
 
   -- what is found under a key is its promise's pair
@@ -81,7 +81,7 @@ module _ (f : Figures) (interest t : ℕ) where
     where
       step : (o : Option Promise) → in_force es key ≡ o → pair_for f interest t o ≡ Some pair → PairOf f interest t es key pair
       step None e same = absurd (false≢true (ap is_some same))
-      step (Some p) e same = (p, e, subst (Worthy f interest t p) (some_inner same) (worth_of es key p shows.worth e))
+      step (Some p) e same = (p, e, subst (Worthy f interest t p) (same_Some _ _ same) (worth_of es key p shows.worth e))
 
   pub ask_heeds : (es : List Entry) (rs : List (Option Record)) (key : ℕ) (r : Result Pair Fault) → Shows f interest t es rs → Outcome r (missing_fault rs key) (λ pair. found rs key ≡ Some pair) → Outcome r (unknown_fault es key) (PairOf f interest t es key)
   ask_heeds es rs key (Ok pair) shows told = (missing_is es rs key shows ∙ told.0, pair_is es rs key pair shows told.1)

@@ -2,10 +2,11 @@
 use Rattle.std.proofs.Common.{◌≡◌, ℕ, ◌+◌, Bool, true, false, cond, eqb, List, [], ◌∷◌, is_some, Some, None, sum_by, Option, sym, refl, ap, ◌∙◌, arith}
 use Rattle.std.specs.List.{AllByRecursion}
 use Rattle.std.proofs.lemmas.Bool.{false≢true, eqb-true}
+use Rattle.std.proofs.lemmas.Option.{same_Some}
 use Rattle.std.proofs.lemmas.List.Sums.{sum_by-cons}
 use Rattle.stock.specs.Register.{Promise, Entry, entry, in_force, exchanged, struck}
 use Rattle.stock.specs.Told.{Once}
-use Rattle.stock.proofs.Keys.{some_inner, swap, skip, other_key, same_key, turned}
+use Rattle.stock.proofs.Keys.{swap, skip, other_key, same_key, turned}
 
 -- past an entry of another key
 past_it : (e : Entry) (es : List Entry) (key : ℕ) → eqb e.key key ≡ false → in_force (e ∷ es) key ≡ in_force es key
@@ -65,7 +66,7 @@ module _ (key : ℕ) (p : Promise) where
     where
       step : (in_force es key ≡ Some old → sum_by (λ x. g x.promise) (exchanged key p es) + g old ≡ sum_by (λ x. g x.promise) es + g p) → (t : Bool) → eqb e.key key ≡ t → sum_by (λ x. g x.promise) (cond t (entry key p ∷ es) (e ∷ exchanged key p es)) + g old ≡ sum_by (λ x. g x.promise) (e ∷ es) + g p
       step next true here =
-          let same : g e.promise ≡ g old = ap g (some_inner (sym (here_it e es key here) ∙ there)) in
+          let same : g e.promise ≡ g old = ap g (same_Some _ _ (sym (here_it e es key here) ∙ there)) in
           omega (arith, same, sum_by-cons (λ x. g x.promise) (entry key p) es, sum_by-cons (λ x. g x.promise) e es)
       step next false past = omega (arith, next (sym (past_it e es key past) ∙ there), sum_by-cons (λ x. g x.promise) e (exchanged key p es), sum_by-cons (λ x. g x.promise) e es)
 
@@ -114,6 +115,6 @@ module _ (key : ℕ) where
     where
       step : (in_force es key ≡ Some old → sum_by (λ x. g x.promise) (struck key es) + g old ≡ sum_by (λ x. g x.promise) es) → (t : Bool) → eqb e.key key ≡ t → sum_by (λ x. g x.promise) (cond t es (e ∷ struck key es)) + g old ≡ sum_by (λ x. g x.promise) (e ∷ es)
       step next true here =
-          let same : g e.promise ≡ g old = ap g (some_inner (sym (here_it e es key here) ∙ there)) in
+          let same : g e.promise ≡ g old = ap g (same_Some _ _ (sym (here_it e es key here) ∙ there)) in
           omega (arith, same, sum_by-cons (λ x. g x.promise) e es)
       step next false past = omega (arith, next (sym (past_it e es key past) ∙ there), sum_by-cons (λ x. g x.promise) e (struck key es), sum_by-cons (λ x. g x.promise) e es)

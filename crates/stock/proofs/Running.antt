@@ -1,6 +1,6 @@
 -- A run of calls, call by call. Assumes nothing.
 use Rattle.std.proofs.Common.{◌≡◌, ℕ, ◌+◌, ◌<◌, ◌≤◌, List, [], ◌∷◌, ◌++◌, map, length, get_or, take, sym, ap, ◌∙◌}
-use Rattle.std.proofs.lemmas.List.{take_more, take_all, map-append, append_assoc, append-nil}
+use Rattle.std.proofs.lemmas.List.{take_more, take_all, map-append, append_assoc}
 use Rattle.basis.specs.Figures.{Figures}
 use Rattle.stock.specs.declared.call.Call.{Call as LentCall}
 use Rattle.stock.specs.Handed.{told}
@@ -8,10 +8,7 @@ use Rattle.stock.specs.Register.{Call, Entry}
 use Rattle.stock.specs.Law.{pair_of, totals, EquallyOften}
 use Rattle.stock.proofs.Counting.{equal_sums}
 
--- nothing played, one call more, and all
-pub none_played : (h : List Call) → h ++ [] ≡ h
-none_played h = append-nil h
-
+-- one call more, and all
 pub one_played : (h : List Call) (calls : List LentCall) (n : ℕ) (d : LentCall) → n < length calls → (h ++ map told (take n calls)) ++ told (get_or calls n d) ∷ [] ≡ h ++ map told (take (n + 1) calls)
 one_played h calls n d inside =
     append_assoc h (map told (take n calls)) (told (get_or calls n d) ∷ []) ∙ ap (λ x. h ++ x) (sym (ap (map told) (take_more calls n d inside) ∙ map-append told (take n calls) (get_or calls n d ∷ [])))

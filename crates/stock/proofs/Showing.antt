@@ -1,6 +1,8 @@
 -- The places of a stock show its register, from call to call. Assumes nothing.
 use Rattle.std.proofs.Common.{◌≡◌, ℕ, zero, suc, ◌<◌, Bool, true, false, cond, eqb, List, [], ◌∷◌, length, get_or, set, replicate, is_some, Some, None, sum_by, Option, sym, refl, ap, ◌∙◌, subst, arith}
 use Rattle.std.proofs.lemmas.Bool.{false≢true, true≢false}
+use Rattle.std.proofs.lemmas.Option.{same_Some}
+use Rattle.std.proofs.lemmas.List.Folds.{sum_by-replicate}
 use Rattle.std.proofs.lemmas.List.Sums.{sum_by-cons, sum_by-set}
 use Rattle.basis.specs.Figures.{Figures}
 use Rattle.valuation.specs.declared.pair.Pair.{Pair}
@@ -9,7 +11,6 @@ use Rattle.stock.specs.Slots.{low_of, high_of, Holds, Vacant, pair_in, found}
 use Rattle.stock.specs.Register.{Promise, Entry, entry, in_force, exchanged, struck}
 use Rattle.stock.specs.Law.{pair_of}
 use Rattle.stock.specs.Told.{Apart, Once, pair_for, Worth, Worthy, Shows}
-use Rattle.stock.proofs.Keys.{some_inner}
 use Rattle.stock.proofs.Places.{Own, count_of, filled, own_of, none_own, found_put, apart_put, clear_none, clear_own}
 use Rattle.stock.proofs.Registers.{found_entered, once_entered, found_exchanged, once_exchanged, all_exchanged, sum_exchanged, found_struck, once_struck, all_struck, sum_struck}
 
@@ -24,10 +25,6 @@ unfolding Apart
 apart_nothing zero = tt
 apart_nothing (suc n) = apart_nothing n
 
-sum_nothing : (g : Option Record → ℕ) → g None ≡ 0 → (n : ℕ) → sum_by g (replicate n None) ≡ 0
-sum_nothing g none zero = refl
-sum_nothing g none (suc n) = sum_by-cons g None (replicate n None) ∙ omega (arith, none, sum_nothing g none n)
-
 module _ (f : Figures) (interest t : ℕ) where
   pub shows_nothing : (n : ℕ) → Shows f interest t [] (replicate n None)
   unfolding in_force Once
@@ -36,9 +33,9 @@ module _ (f : Figures) (interest t : ℕ) where
     apart = apart_nothing n;
     once = tt;
     worth = tt;
-    lows = sum_nothing low_of refl n;
-    highs = sum_nothing high_of refl n;
-    counted = sum_nothing count_of refl n;
+    lows = omega (arith, sum_by-replicate low_of n None);
+    highs = omega (arith, sum_by-replicate high_of n None);
+    counted = omega (arith, sum_by-replicate count_of n None);
   }
 
   -- a choice, valued
@@ -80,7 +77,7 @@ module _ (f : Figures) (interest t : ℕ) where
   -- what a place adds
   slot_low : (r : Option Record) (q : Pair) → pair_in r ≡ Some q → (low_of r ≡ q.lower) × (high_of r ≡ q.upper) × (count_of r ≡ 1)
   slot_low None q e = absurd (false≢true (ap is_some e))
-  slot_low (Some r) q e = let same = some_inner e in (ap (λ x. x.lower) same, ap (λ x. x.upper) same, refl)
+  slot_low (Some r) q e = let same = same_Some _ _ e in (ap (λ x. x.lower) same, ap (λ x. x.upper) same, refl)
 
   ones : (es : List Entry) → sum_by (λ e. 1) es ≡ length es
   ones [] = refl

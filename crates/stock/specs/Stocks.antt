@@ -1,4 +1,4 @@
--- What a stock answers on its own basis and terms, on the figures of any type of basis. Assumes nothing.
+-- What a stock answers, on its own basis and terms. Assumes nothing.
 use Rattle.std.specs.Prelude.{◌≡◌, ℕ, List, OnErr, Result}
 use Rattle.fault.specs.declared.Fault.{Fault}
 use Rattle.basis.specs.Figures.{Figures}
@@ -36,10 +36,11 @@ module _ {B : Type 0} (figures : B → Figures) where
   abbrev pub HasHad : Stock B → List Call → Type 0
   HasHad s h = Had (figures s.basis) s.terms.interest s.terms.instalments h s.slots.records
 
-  -- a stock heeds a call, and tells what it is asked for by one that is never refused
+  -- whatever calls a stock has had, this one is answered as their register says, and then it has had this one too
   abbrev pub Heeded : {X : Type 0} → Stock B → Stock B → Call → Result X Fault → (List Entry → X → Type 0) → Type 0
   Heeded before after call r P = Heeds (figures before.basis) before.terms.interest before.terms.instalments before.slots.records after.slots.records call r P
 
+  -- the same of a call that is never refused and changes nothing
   abbrev pub Tells : Stock B → Call → (List Entry → Type 0) → Type 0
   Tells s call P = Told (figures s.basis) s.terms.interest s.terms.instalments s.slots.records call P
 

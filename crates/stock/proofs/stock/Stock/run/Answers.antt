@@ -1,12 +1,13 @@
 use Rattle.std.proofs.Common.{sym, refl, ◌∙◌, subst}
+use Rattle.std.proofs.lemmas.List.{append-nil}
 use Rattle.stock.specs.declared.call.Call.TheVariants.{Total}
 use Rattle.stock.specs.Stocks.{HasHad}
 use Rattle.stock.proofs.Answering.{had_more}
-use Rattle.stock.proofs.Running.{none_played, all_played}
+use Rattle.stock.proofs.Running.{all_played}
 use Rattle.stock.proofs.stock.Stock.run.Goals as goal
 
 pub loop-call-init : goal.loop-call-init
-loop-call-init g c = record { had = λ h had. subst (HasHad g.B.Basis.figures c.args.self.now) (sym (none_played h)) had; kept = (refl, refl) }
+loop-call-init g c = record { had = λ h had. subst (HasHad g.B.Basis.figures c.args.self.now) (sym (append-nil h)) had; kept = (refl, refl) }
 
 pub loop-call-preserved : goal.loop-call-preserved
 loop-call-preserved g c = record {
