@@ -1,7 +1,7 @@
 -- The places of a stock, as they are searched and changed. Assumes nothing.
 use Rattle.std.proofs.Common.{◌≡◌, ℕ, zero, suc, ◌+◌, ◌-◌, ◌*◌, ◌<◌, ◌≤◌, Bool, true, false, cond, not, eqb, ltb, List, [], ◌∷◌, length, get_or, set, remove, position, is_some, is_none, Some, None, MatchOption, ok_or, sum_by, count_by, Option, sym, refl, ap, ◌∙◌, subst, arith}
 use Rattle.std.specs.List.{position_or_len}
-use Rattle.std.proofs.lemmas.Bool.{true≢false, false≢true, eqb-true, eq-eqb, ne_eqb, ltb-false}
+use Rattle.std.proofs.lemmas.Bool.{cond-false, true≢false, false≢true, eqb-true, eq-eqb, ne_eqb, ltb-false}
 use Rattle.std.proofs.lemmas.List.{length-set}
 use Rattle.std.proofs.lemmas.List.Edits.{length-remove}
 use Rattle.std.proofs.lemmas.List.Quantifiers.{position-Some}
@@ -120,7 +120,7 @@ put_here key r None rs own mine none k = step (eqb key k) refl
   where
     step : (t : Bool) → eqb key k ≡ t → found rs k ≡ cond t None (cond (has_key k r) (pair_in r) (found rs k))
     step true same = ap (found rs) (sym (eqb-true key k same)) ∙ none
-    step false other = sym (ap (λ t. cond t (pair_in r) (found rs k)) (own_test key r own k other))
+    step false other = sym (cond-false _ _ _ (own_test key r own k other))
 put_here key r (Some s) rs own mine none k =
     ap (λ n. cond (eqb n k) (Some s.pair) (found rs k)) mine ∙ skip (eqb key k) (has_key k r) (Some s.pair) (pair_in r) (found rs k) (own_test key r own k)
 
@@ -141,7 +141,7 @@ clear_none key [] i none = none
 clear_none key (r ∷ rs) zero none = (not_there key r (found rs key) none).1
 clear_none key (r ∷ rs) (suc i) none =
     let past = not_there key r (found rs key) none in
-    ap (λ t. cond t (pair_in r) (found (set rs i None) key)) past.0 ∙ clear_none key rs i past.1
+    cond-false _ _ _ past.0 ∙ clear_none key rs i past.1
 
 seen : (key : ℕ) (rs : List (Option Record)) (i : ℕ) → found rs key ≡ None → has_key key (get_or rs i None) ≡ false
 unfolding found
@@ -175,7 +175,7 @@ apart_put key (r ∷ rs) zero (Some s) inside own mine none apart = (ap (found r
 apart_put key (None ∷ rs) (suc i) new inside own mine none apart = apart_put key rs i new (omega arith) own mine none apart
 apart_put key (Some r ∷ rs) (suc i) new inside own mine none apart =
     let past = not_there key (Some r) (found (set rs i None) key) none in
-    (found_put key rs i new (omega arith) own mine past.1 r.key ∙ ap (λ t. cond t (pair_in new) (found rs r.key)) (turned r.key key past.0) ∙ apart.0, apart_put key rs i new (omega arith) own mine past.1 apart.1)
+    (found_put key rs i new (omega arith) own mine past.1 r.key ∙ cond-false _ _ _ (turned r.key key past.0) ∙ apart.0, apart_put key rs i new (omega arith) own mine past.1 apart.1)
 
 pub own_of : (key : ℕ) (r : Option Record) → has_key key r ≡ true → Own key r
 own_of key None own = tt
