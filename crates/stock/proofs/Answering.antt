@@ -10,10 +10,10 @@ use Rattle.stock.specs.declared.call.Call.{Call as LentCall}
 use Rattle.stock.specs.declared.call.Answer.{Answer}
 use Rattle.stock.specs.declared.call.Answer.TheVariants.{Done}
 use Rattle.stock.specs.Handed.{told}
-use Rattle.stock.specs.Register.{Entry, Call, refusal, granted, register}
+use Rattle.stock.specs.Register.{Entry, Call, refusal, granted, unless, register}
 use Rattle.stock.specs.Stocks.{Silent, AnswerIn, Answered, HasHad, Kept}
 use Rattle.stock.specs.Told.{Had, Shows}
-use Rattle.stock.proofs.Heeding.{had_refused, had_granted, heeds_as}
+use Rattle.stock.proofs.Heeding.{had_after, heeds_as}
 use Rattle.stock.proofs.Running.{one_played}
 
 -- of a column no more than the least is lent, and so it is long enough just if the column is
@@ -31,7 +31,8 @@ module _ {B : Type 0} (figures : B → Figures) where
   pub refused : {X : Type 0} (s : Stock B) (call : Call) (r : Result X Fault) (P : List Entry → X → Type 0) (e : Fault) → r ≡ Err e
       → ((h : List Call) → HasHad figures s h → refusal (figures s.basis).final_age (register (figures s.basis).final_age h) call ≡ Some e) → Answered figures s s call r P
   refused s call r P e is why = record {
-    heeds = λ h had. let w = why h had in (rw is w, had_refused _ _ _ h call _ e had w);
+    heeds = λ h had. let es = register (figures s.basis).final_age h in
+        let w = why h had in (rw is w, had_after _ _ _ h call _ es (ap (λ o. unless o es (granted es call)) w) had);
     kept = (refl, refl);
     still = rw is refl;
   }
@@ -41,7 +42,8 @@ module _ {B : Type 0} (figures : B → Figures) where
       → ((h : List Call) → HasHad figures before h → (refusal (figures before.basis).final_age (register (figures before.basis).final_age h) call ≡ None) × P (register (figures before.basis).final_age h) x × Shows (figures before.basis) before.terms.interest before.terms.instalments (granted (register (figures before.basis).final_age h) call) after.slots.records)
       → Answered figures before after call (Ok x) P
   grants before after call x P kept shows = record {
-    heeds = λ h had. let s = shows h had in ((s.0, s.1), had_granted _ _ _ h call _ s.0 s.2);
+    heeds = λ h had. let es = register (figures before.basis).final_age h in
+        let s = shows h had in ((s.0, s.1), had_after _ _ _ h call _ _ (ap (λ o. unless o es (granted es call)) s.0) s.2);
     kept = kept;
     still = tt;
   }

@@ -44,22 +44,13 @@ module _ (f : Figures) (interest t : ℕ) where
       ap (λ b. first_of (refuse_if b (fault Known 0 0)) (refuse_if (eqb (length es) 512) (fault Full 0 0))) (sym (in_force_is es rs key shows))
       ∙ ap (λ n. first_of (refuse_if (is_some (found rs key)) (fault Known 0 0)) (refuse_if (eqb n 512) (fault Full 0 0))) (sym shows.counted)
 
-  -- a refused call changes nothing, a granted one what it grants
-  pub had_refused : (h : List Call) (call : Call) (rs : List (Option Record)) (e : Fault) → Had f interest t h rs → refusal f.final_age (register f.final_age h) call ≡ Some e → Had f interest t (h ++ call ∷ []) rs
-  had_refused h call rs e had why =
-      let es = register f.final_age h in
-      subst (λ x. Shows f interest t x rs) (sym (fold_push (after f.final_age) [] h call ∙ ap (λ o. unless o es (granted es call)) why)) had
-
-  pub had_granted : (h : List Call) (call : Call) (rs : List (Option Record)) → refusal f.final_age (register f.final_age h) call ≡ None → Shows f interest t (granted (register f.final_age h) call) rs → Had f interest t (h ++ call ∷ []) rs
-  had_granted h call rs why had =
-      let es = register f.final_age h in
-      subst (λ x. Shows f interest t x rs) (sym (fold_push (after f.final_age) [] h call ∙ ap (λ o. unless o es (granted es call)) why)) had
+  -- what a call makes of the register, its places show
+  pub had_after : (h : List Call) (call : Call) (rs : List (Option Record)) (es : List Entry) → after f.final_age (register f.final_age h) call ≡ es → Shows f interest t es rs → Had f interest t (h ++ call ∷ []) rs
+  had_after h call rs es is shows = subst (λ x. Shows f interest t x rs) (sym (fold_push (after f.final_age) [] h call ∙ is)) shows
 
   -- a question changes nothing, refused or not
   pub had_asked : (h : List Call) (call : Call) (rs : List (Option Record)) → granted (register f.final_age h) call ≡ register f.final_age h → Had f interest t h rs → Had f interest t (h ++ call ∷ []) rs
-  had_asked h call rs same had =
-      let es = register f.final_age h in
-      subst (λ x. Shows f interest t x rs) (sym (fold_push (after f.final_age) [] h call ∙ still (refusal f.final_age es call) es (granted es call) same)) had
+  had_asked h call rs same had = had_after h call rs (register f.final_age h) (still (refusal f.final_age (register f.final_age h) call) (register f.final_age h) _ same) had
     where
       still : (o : Option Fault) (es ds : List Entry) → ds ≡ es → unless o es ds ≡ es
       still None es ds same = same
@@ -101,10 +92,8 @@ module _ (f : Figures) (interest t : ℕ) where
       let z = f.final_age in
       let es = register z h in
       let one = heeds h had in
-      let alike : after z es c ≡ after z es d = ap (λ o. unless o es (granted es c)) (refused es) ∙ ap (unless (refusal z es d) es) (same es) in (
-        subst (λ o. Outcome r o (P es)) (refused es) one.0,
-        subst (λ x. Shows f interest t x later) (fold_push (after z) [] h c ∙ alike ∙ sym (fold_push (after z) [] h d)) one.1,
-      )
+      let alike : after z es d ≡ after z es c = sym (ap (λ o. unless o es (granted es c)) (refused es) ∙ ap (unless (refusal z es d) es) (same es)) in
+      (subst (λ o. Outcome r o (P es)) (refused es) one.0, had_after h d later _ (alike ∙ sym (fold_push (after z) [] h c)) one.1)
 
 -- calls with columns that are both long enough or both too short are refused alike
 pub admit_column : (k : ℕ) (p : Promise) (m n : ℕ) → ltb m 512 ≡ ltb n 512 → (z : ℕ) (es : List Entry) → refusal z es (Admit k p m) ≡ refusal z es (Admit k p n)
