@@ -69,9 +69,9 @@ pub fn replay<B: Basis + Drop>(run: Run<'_, B>) -> Pair
 // each other as is promised; and if both have the same figures and terms, and each promise stands equally often in both
 // registers, under whatever keys, the totals are equal.
 pub fn compare<A: Basis + Drop, B: Basis + Drop>(one: Run<'_, A>, other: Run<'_, B>) -> (Pair, Pair)
-    ensures one { Encloses A.Basis.figures one.entry result.0 }
-    ensures other { Encloses B.Basis.figures other.entry result.1 }
-    ensures equal { A.Basis.figures one.entry.basis ≡ B.Basis.figures other.entry.basis → one.entry.terms.interest ≡ other.entry.terms.interest → one.entry.terms.instalments ≡ other.entry.terms.instalments → EquallyOften (in_force_after A.Basis.figures one.entry) (in_force_after B.Basis.figures other.entry) → result.0 ≡ result.1 }
+    ensures one { Encloses A.figures one.entry result.0 }
+    ensures other { Encloses B.figures other.entry result.1 }
+    ensures equal { A.figures one.entry.basis ≡ B.figures other.entry.basis → one.entry.terms.interest ≡ other.entry.terms.interest → one.entry.terms.instalments ≡ other.entry.terms.instalments → EquallyOften (in_force_after A.figures one.entry) (in_force_after B.figures other.entry) → result.0 ≡ result.1 }
 {
     (replay(one), replay(other))
 }
