@@ -1,5 +1,5 @@
 -- How the places of a stock show the register of the calls that it has had. Assumes nothing.
-use Rattle.std.specs.Prelude.{◌≡◌, ℕ, List, [], ◌∷◌, ◌++◌, length, is_some, Some, None, sum_by, count_by, Option, Result}
+use Rattle.std.specs.Prelude.{◌≡◌, ℕ, List, [], ◌∷◌, ◌++◌, length, is_some, option_map, Some, None, sum_by, count_by, Option, Result}
 use Rattle.std.specs.List.{AllByRecursion}
 use Rattle.fault.specs.declared.Fault.{Fault}
 use Rattle.fault.specs.Faults.{Outcome}
@@ -23,8 +23,7 @@ Once (e ∷ es) = (in_force es e.key ≡ None) × Once es
 
 module _ (f : Figures) (interest instalments : ℕ) where
   abbrev pub pair_for : Option Promise → Option Pair
-  pair_for None = None
-  pair_for (Some p) = Some (pair_of f interest instalments p)
+  pair_for promise = option_map (pair_of f interest instalments) promise
 
   -- a promise that a valuation has taken, with its pair
   pub record Worthy (p : Promise) (pair : Pair) : Type 0 where
