@@ -6,13 +6,8 @@ use Rattle.stock.specs.Register.{Admit}
 use Rattle.stock.specs.Told.{Shows}
 use Rattle.stock.proofs.Answering.{refused, grants}
 use Rattle.stock.proofs.Showing.{shows_admit}
-use Rattle.stock.proofs.Heeding.{first_is, vacancy_is}
+use Rattle.stock.proofs.Heeding.{vacancy_is}
 use Rattle.stock.proofs.stock.Stock.admit.Goals as goal
-
-pub returns-in_err-new : goal.returns-in_err-new
-returns-in_err-new g c =
-    let p = err_from_is_err_and c.from_residual.result c.from_residual.ensures.1 in
-    refused g.B.Basis.figures c.args.self.now (Admit c.args.key (promised c.args.promise) _) _ _ _ (p.1 ∙ ap Err p.2) (λ h had. first_is _ _ _ c.in_err-new.ensures)
 
 pub returns-in_err-place : goal.returns-in_err-place
 returns-in_err-place g c =

@@ -6,13 +6,8 @@ use Rattle.stock.specs.Register.{Amend}
 use Rattle.stock.specs.Told.{Shows}
 use Rattle.stock.proofs.Answering.{refused, grants}
 use Rattle.stock.proofs.Showing.{shows_amend}
-use Rattle.stock.proofs.Heeding.{first_is, missing_is}
+use Rattle.stock.proofs.Heeding.{missing_is}
 use Rattle.stock.proofs.stock.Stock.amend.Goals as goal
-
-pub returns-in_err-changed : goal.returns-in_err-changed
-returns-in_err-changed g c =
-    let p = err_from_is_err_and c.from_residual.result c.from_residual.ensures.1 in
-    refused g.B.Basis.figures c.args.self.now (Amend c.args.key (promised c.args.promise) _) _ _ _ (p.1 ∙ ap Err p.2) (λ h had. first_is _ _ _ c.in_err-changed.ensures)
 
 pub returns-in_err-place : goal.returns-in_err-place
 returns-in_err-place g c =
