@@ -56,7 +56,7 @@ module _ (f : Figures) (interest t : ℕ) where
       still None es ds same = same
       still (Some e) es ds same = refl
 
-  -- the promise in force under a key is worth what was is_some
+  -- the promise in force under a key is worth what was taken
   worth_of : (es : List Entry) (key : ℕ) (p : Promise) → AllByRecursion (Worth f interest t) es → in_force es key ≡ Some p → Worthy f interest t p (pair_of f interest t p)
   unfolding in_force
   worth_of [] key p worth there = absurd (false≢true (ap is_some there))

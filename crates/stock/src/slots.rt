@@ -1,5 +1,5 @@
 // The inner table of a stock: its places, and the totals carried forward.
-ghost use Rattle.std.specs.Prelude.{◌≡◌, ◌<◌, length, replicate, if◌then◌else◌, Some, None, is_none, is_some, sum_by, count_by, position, slice_set};
+ghost use Rattle.std.specs.Prelude.{◌≡◌, ◌<◌, length, replicate, Some, None, is_none, is_some, sum_by, count_by, position, slice_set};
 ghost use Rattle.fault.specs.Faults.{Outcome};
 ghost use Rattle.stock.specs.Slots.{Holds, Vacant, found, has_key, high_of, low_of, missing_fault, vacancy_fault};
 
