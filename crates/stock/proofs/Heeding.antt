@@ -18,10 +18,6 @@ use Rattle.stock.specs.Law.{pair_of, totals, Enclosing}
 use Rattle.stock.specs.Told.{pair_for, Worth, Worthy, Shows, Had, Heeds, PairOf, TotalOf}
 use Rattle.stock.proofs.Totals.{enclosing}
 
--- the first fault of two checks
-pub first_is : (a b : Option Fault) (e : Fault) → a ≡ Some e → first_of a b ≡ Some e
-first_is a b e h = ap (λ o. first_of o b) h
-
 -- columns that are both long enough or both too short
 column_as : (z : ℕ) (p : Promise) (m n : ℕ) → ltb m 512 ≡ ltb n 512 → promise_fault z p m ≡ promise_fault z p n
 column_as z p m n same = ap (λ b. first_of (refuse_if (ltb p.age (first_age z p.benefit) || ltb (last_age z p.benefit) p.age) (fault Age 0 0)) (first_of (refuse_if (not (eqb (length p.amounts) (span z p.benefit p.age))) (fault Span 0 0)) (first_of (amounts_fault p.amounts) (refuse_if b (fault Column 0 0))))) same

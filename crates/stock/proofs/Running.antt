@@ -1,6 +1,6 @@
 -- A run of calls, call by call. Assumes nothing.
-use Rattle.std.proofs.Common.{◌≡◌, ℕ, ◌+◌, ◌<◌, ◌≤◌, List, [], ◌∷◌, ◌++◌, map, length, get_or, take, sym, ap, ◌∙◌}
-use Rattle.std.proofs.lemmas.List.{take_more, take_all, map-append, append_assoc}
+use Rattle.std.proofs.Common.{◌≡◌, ℕ, ◌+◌, ◌<◌, List, [], ◌∷◌, ◌++◌, map, length, get_or, take, sym, ap, ◌∙◌}
+use Rattle.std.proofs.lemmas.List.{take_more, map-append, append_assoc}
 use Rattle.basis.specs.Figures.{Figures}
 use Rattle.stock.specs.declared.call.Call.{Call as LentCall}
 use Rattle.stock.specs.Handed.{told}
@@ -8,13 +8,10 @@ use Rattle.stock.specs.Register.{Call, Entry}
 use Rattle.stock.specs.Law.{pair_of, totals, EquallyOften}
 use Rattle.stock.proofs.Counting.{equal_sums}
 
--- one call more, and all
+-- one call more
 pub one_played : (h : List Call) (calls : List LentCall) (n : ℕ) (d : LentCall) → n < length calls → (h ++ map told (take n calls)) ++ told (get_or calls n d) ∷ [] ≡ h ++ map told (take (n + 1) calls)
 one_played h calls n d inside =
     append_assoc h (map told (take n calls)) (told (get_or calls n d) ∷ []) ∙ ap (λ x. h ++ x) (sym (ap (map told) (take_more calls n d inside) ∙ map-append told (take n calls) (get_or calls n d ∷ [])))
-
-pub all_played : (h : List Call) (calls : List LentCall) (n : ℕ) → length calls ≤ n → h ++ map told (take n calls) ≡ h ++ map told calls
-all_played h calls n past = ap (λ x. h ++ map told x) (take_all n calls past)
 
 -- equal figures and terms, and promises equally often: equal totals
 pub equal_totals : (f g : Figures) (i j t u : ℕ) (es ds : List Entry) → f ≡ g → i ≡ j → t ≡ u → EquallyOften es ds → totals f i t es ≡ totals g j u ds
