@@ -1,5 +1,5 @@
 -- Tests against one key, and what is found under it. Assumes nothing.
-use Rattle.std.proofs.Common.{◌≡◌, ℕ, Bool, true, false, cond, eqb, Some, None, Option, sym, refl, ap, ◌∙◌}
+use Rattle.std.proofs.Common.{◌≡◌, ℕ, Bool, true, false, cond, eqb, sym, refl, ap, ◌∙◌}
 use Rattle.std.proofs.lemmas.Bool.{true≢false, eqb-true, eqb-false, ne_eqb}
 
 -- of two tests that are not both true, either may come first
@@ -23,7 +23,3 @@ same_key a key k same differs = ap (λ n. eqb n k) same ∙ differs
 
 pub turned : (a b : ℕ) → eqb a b ≡ false → eqb b a ≡ false
 turned a b h = ne_eqb b a (λ e. eqb-false a b h (sym e))
-
--- equal finds
-pub some_inner : {X : Type 0} {x y : X} → ◌≡◌ {A = Option X} (Some x) (Some y) → x ≡ y
-some_inner {X} {x} {y} e = ap (λ o. elim o [ Some z ↦ z | None ↦ x ]) e

@@ -6,3 +6,4 @@ pub mod Showing
 pub mod Totals
 pub mod Heeding
 pub mod Running
+pub mod Answering

@@ -1,51 +1,84 @@
 -- The places of a stock, as they are searched and changed. Assumes nothing.
-use Rattle.std.proofs.Common.{◌≡◌, ℕ, zero, suc, ◌+◌, ◌-◌, ◌*◌, ◌<◌, ◌≤◌, Bool, true, false, cond, eqb, List, [], ◌∷◌, length, get_or, take, drop, set, is_some, Some, None, sum_by, count_by, Option, sym, refl, ap, ◌∙◌, subst, arith}
-use Rattle.std.specs.List.{AllByRecursion}
-use Rattle.std.proofs.lemmas.Bool.{true≢false, false≢true, eqb-true}
-use Rattle.std.proofs.lemmas.List.{at_drop_more, at_drop_all, length-set, length-take, length-drop, take_all}
-use Rattle.std.proofs.lemmas.List.Sums.{sum_by-set, get_or-le-sum_by, count_by_more_yes, count_by-le-length, sum_by-take-drop, sum_by-drop_more}
-use Rattle.std.proofs.ByRecursion.{sum_by_le}
+use Rattle.std.proofs.Common.{◌≡◌, ℕ, zero, suc, ◌+◌, ◌-◌, ◌*◌, ◌<◌, ◌≤◌, Bool, true, false, cond, not, eqb, ltb, List, [], ◌∷◌, length, get_or, set, remove, position, is_some, is_none, Some, None, MatchOption, ok_or, sum_by, count_by, Option, sym, refl, ap, ◌∙◌, subst, arith}
+use Rattle.std.specs.List.{position_or_len}
+use Rattle.std.proofs.lemmas.Bool.{cond-false, true≢false, false≢true, eqb-true, eq-eqb, ne_eqb, ltb-false}
+use Rattle.std.proofs.lemmas.List.{length-set}
+use Rattle.std.proofs.lemmas.List.Edits.{length-remove}
+use Rattle.std.proofs.lemmas.List.Quantifiers.{position-Some}
+use Rattle.std.proofs.lemmas.List.Recursion.{found_at, found_nowhere}
+use Rattle.std.proofs.lemmas.List.Sums.{sum_by-cons, sum_by-set, sum_by-remove, sum_by-le, get_or-le-sum_by, count_by-le-length, fails_before_first}
+use Rattle.fault.specs.declared.Refusal.TheVariants.{Known, Unknown, Full}
+use Rattle.fault.specs.Faults.{fault, refuse_if, first_of, Outcome}
 use Rattle.valuation.specs.declared.pair.Pair.{Pair}
 use Rattle.stock.specs.declared.record.Record.{Record}
-use Rattle.stock.specs.Slots.{low_of, high_of, taken, has_key, pair_in, found}
+use Rattle.stock.specs.Slots.{low_of, high_of, has_key, pair_in, found, Holds, Vacant, vacancy_fault, missing_fault}
 use Rattle.stock.specs.Told.{Apart}
 use Rattle.stock.proofs.Keys.{swap, skip, same_key, turned}
 
 abbrev pub count_of : Option Record → ℕ
-count_of r = cond (taken r) 1 0
+count_of r = cond (is_some r) 1 0
 
--- a search for a key goes on past a place that has not got it, and ends with nothing
-pub found_more : (rs : List (Option Record)) (key i : ℕ) (d : Option Record) → i < length rs → found (drop i rs) key ≡ found rs key → has_key key (get_or rs i d) ≡ false → found (drop (i + 1) rs) key ≡ found rs key
-unfolding found
-found_more rs key i d inside before other = sym (at_drop_more (λ xs. found xs key) rs i d inside ∙ ap (λ t. cond t (pair_in (get_or rs i d)) (found (drop (i + 1) rs) key)) other) ∙ before
-
-pub found_here : (rs : List (Option Record)) (key i : ℕ) (d : Option Record) → i < length rs → found (drop i rs) key ≡ found rs key → has_key key (get_or rs i d) ≡ true → found rs key ≡ pair_in (get_or rs i d)
-unfolding found
-found_here rs key i d inside before here = sym before ∙ at_drop_more (λ xs. found xs key) rs i d inside ∙ ap (λ t. cond t (pair_in (get_or rs i d)) (found (drop (i + 1) rs) key)) here
-
-pub found_none : (rs : List (Option Record)) (key i : ℕ) → length rs ≤ i → found (drop i rs) key ≡ found rs key → found rs key ≡ None
-unfolding found
-found_none rs key i past before = sym before ∙ at_drop_all (λ xs. found xs key) rs i past
-
-pub free_more : (rs : List (Option Record)) (i : ℕ) (d : Option Record) → i < length rs → count_by taken (take i rs) ≡ i → is_some (get_or rs i d) ≡ true → count_by taken (take (i + 1) rs) ≡ i + 1
-free_more rs i d inside before some = count_by_more_yes taken rs i d inside (told (get_or rs i d) some) ∙ ap (λ n. n + 1) before
+-- a search that answers nothing has passed every place
+none_passes : (p : Option Record → Bool) (rs : List (Option Record)) → position p rs ≡ None → (k : ℕ) → k < length rs → p (get_or rs k None) ≡ false
+none_passes p rs none k inside = step (ltb (position_or_len p rs) (length rs)) refl none
   where
-    told : (r : Option Record) → is_some r ≡ true → taken r ≡ true
-    told None e = e
-    told (Some r) e = refl
+    step : (t : Bool) → ltb (position_or_len p rs) (length rs) ≡ t → cond t (Some (position_or_len p rs)) None ≡ None → p (get_or rs k None) ≡ false
+    step true e h = absurd (true≢false (ap is_some h))
+    step false e h = fails_before_first p rs k None (omega (arith, ltb-false _ _ e))
 
-pub free_none : (rs : List (Option Record)) (i : ℕ) → length rs ≡ 512 → 512 ≤ i → i ≤ 512 → count_by taken (take i rs) ≡ i → count_by taken rs ≡ 512
-free_none rs i full low high all = sym (ap (count_by taken) (take_all i rs (omega arith))) ∙ all ∙ omega arith
+-- a place that has a key has its pair
+pub filled : (key : ℕ) (r : Option Record) → has_key key r ≡ true → is_some (pair_in r) ≡ true
+filled key None has = has
+filled key (Some r) has = refl
 
-pub none_of : (r : Option Record) → is_some r ≡ false → r ≡ None
-none_of None e = refl
-none_of (Some r) e = absurd (true≢false e)
+-- what the search for a key answers
+sought : (rs : List (Option Record)) (key : ℕ) (o : Option ℕ) → length rs ≡ 512 → o ≡ position (has_key key) rs → MatchOption o (found rs key ≡ None) (Holds rs key)
+unfolding found
+sought rs key None full e = found_nowhere (λ xs. found xs key) (has_key key) pair_in None refl (λ _ _. refl) rs None (none_passes (has_key key) rs (sym e))
+sought rs key (Some i) full e =
+    let at = position-Some (has_key key) rs i None (sym e) in
+    record { inside = omega (arith, at.0, full); has = at.1; pair = found_at (λ xs. found xs key) (has_key key) pair_in None refl (λ _ _. refl) rs i None at.0 at.2 at.1 }
 
-pub free_fewer : (rs : List (Option Record)) (i : ℕ) (d : Option Record) → i < length rs → get_or rs i d ≡ None → count_by taken rs < length rs
-free_fewer rs i d inside free =
-    let before = count_by-le-length taken (take i rs) in
-    let after = count_by-le-length taken (drop (i + 1) rs) in
-    omega (arith, sum_by-take-drop count_of rs i, sum_by-drop_more count_of rs i d inside, ap count_of free, length-take i rs, length-drop (i + 1) rs)
+pub held_is : (rs : List (Option Record)) (key : ℕ) (o : Option ℕ) → length rs ≡ 512 → o ≡ position (has_key key) rs → Outcome (ok_or o (fault Unknown 0 0)) (missing_fault rs key) (Holds rs key)
+held_is rs key None full e = ap (λ q. refuse_if (not (is_some q)) (fault Unknown 0 0)) (sought rs key None full e)
+held_is rs key (Some i) full e =
+    let holds = sought rs key (Some i) full e in
+    (ap (λ t. refuse_if (not t) (fault Unknown 0 0)) (ap is_some holds.pair ∙ filled key _ holds.has), holds)
+
+pub known_is : (rs : List (Option Record)) (key : ℕ) (o : Option ℕ) → length rs ≡ 512 → o ≡ position (has_key key) rs → is_some o ≡ true → vacancy_fault rs key ≡ Some (fault Known 0 0)
+known_is rs key None full e some = absurd (false≢true some)
+known_is rs key (Some i) full e some =
+    let holds = sought rs key (Some i) full e in
+    ap (λ t. first_of (refuse_if t (fault Known 0 0)) (refuse_if (eqb (count_by is_some rs) 512) (fault Full 0 0))) (ap is_some holds.pair ∙ filled key _ holds.has)
+
+-- how many places are taken, where all are, and where one is not
+all_taken : (rs : List (Option Record)) → ((k : ℕ) → k < length rs → is_none (get_or rs k None) ≡ false) → count_by is_some rs ≡ length rs
+all_taken [] all = refl
+all_taken (None ∷ rs) all = absurd (true≢false (all 0 (omega arith)))
+all_taken (Some r ∷ rs) all = omega (arith, sum_by-cons count_of (Some r) rs, all_taken rs (λ k inside. all (suc k) (omega arith)))
+
+one_free : (rs : List (Option Record)) (i : ℕ) → i < length rs → get_or rs i None ≡ None → count_by is_some rs < length rs
+one_free rs i inside free = omega (arith, sum_by-remove count_of rs i None inside, ap count_of free, count_by-le-length is_some (remove rs i), length-remove rs i inside)
+
+pub vacancy_of : (rs : List (Option Record)) (key : ℕ) (o q : Option ℕ) → length rs ≡ 512 → o ≡ position (has_key key) rs → is_some o ≡ false → q ≡ position is_none rs → Outcome (ok_or q (fault Full 0 0)) (vacancy_fault rs key) (Vacant rs key)
+vacancy_of rs key (Some i) q full e none at = absurd (true≢false none)
+vacancy_of rs key None None full e none at =
+    let new = sought rs key None full e in
+    ap (λ p. first_of (refuse_if (is_some p) (fault Known 0 0)) (refuse_if (eqb (count_by is_some rs) 512) (fault Full 0 0))) new
+    ∙ ap (λ t. refuse_if t (fault Full 0 0)) (eq-eqb _ _ (all_taken rs (none_passes _ rs (sym at)) ∙ full))
+vacancy_of rs key None (Some i) full e none at =
+    let new = sought rs key None full e in
+    let here = position-Some is_none rs i None (sym at) in
+    let free = none_of (get_or rs i None) here.1 in
+    let room = one_free rs i here.0 free in (
+      ap (λ p. first_of (refuse_if (is_some p) (fault Known 0 0)) (refuse_if (eqb (count_by is_some rs) 512) (fault Full 0 0))) new
+          ∙ ap (λ t. refuse_if t (fault Full 0 0)) (ne_eqb _ _ (λ same. omega arith)),
+      record { inside = omega (arith, here.0, full); free = free; none = new },
+    )
+  where
+    none_of : (r : Option Record) → is_none r ≡ true → r ≡ None
+    none_of None e = refl
+    none_of (Some r) e = absurd (false≢true e)
 
 -- what one place adds is modest
 pub low_modest : (r : Option Record) → low_of r ≤ 1125899906842624
@@ -56,27 +89,11 @@ pub high_modest : (r : Option Record) → high_of r ≤ 1125899906842624
 high_modest None = omega arith
 high_modest (Some r) = omega (arith, r.small)
 
-pub one_each : (r : Option Record) → count_of r ≤ 1
-one_each None = omega arith
-one_each (Some r) = omega arith
-
-every : (P : Option Record → Type 0) → ((r : Option Record) → P r) → (rs : List (Option Record)) → AllByRecursion P rs
-every P h [] = tt
-every P h (r ∷ rs) = (h r, every P h rs)
-
--- a total carried forward over the change of one place: what the place adds is in it, and the new total fits
-pub record Carried (f : Option Record → ℕ) (rs : List (Option Record)) (i : ℕ) (old new : Option Record) (m : ℕ) : Type 0 where
-  pub in_it : f old ≤ sum_by f rs
-  pub sum : sum_by f rs - f old + f new ≡ sum_by f (set rs i new)
-  pub fits : sum_by f rs - f old + f new ≤ 512 * m
-
-pub carried : (f : Option Record → ℕ) (m : ℕ) → ((r : Option Record) → f r ≤ m) → (rs : List (Option Record)) (i : ℕ) (new d : Option Record) → length rs ≡ 512 → i < 512 → Carried f rs i (get_or rs i d) new m
-carried f m modest rs i new d full inside =
+-- a total carried forward over the change of one place fits
+pub fits : (f : Option Record → ℕ) (m : ℕ) → ((r : Option Record) → f r ≤ m) → (rs : List (Option Record)) (i : ℕ) (new d : Option Record) → length rs ≡ 512 → i < 512 → sum_by f rs - f (get_or rs i d) + f new ≤ 512 * m
+fits f m modest rs i new d full inside =
     let there : i < length rs = omega arith in
-    let in_it = get_or-le-sum_by f rs i d there in
-    let sum : sum_by f rs - f (get_or rs i d) + f new ≡ sum_by f (set rs i new) = omega (arith, sum_by-set f rs i new d there) in
-    let long : length (set rs i new) ≡ 512 = length-set rs i new ∙ full in
-    record { in_it = in_it; sum = sum; fits = omega (arith, sum, sum_by_le f m (set rs i new) (every _ modest (set rs i new)), ap (λ n. n * m) long) }
+    omega (arith, get_or-le-sum_by f rs i d there, sum_by-set f rs i new d there, sum_by-le f m (set rs i new) (λ k d _. modest (get_or (set rs i new) k d)), ap (λ n. n * m) (length-set rs i new ∙ full))
 
 -- A place that is free or has the key, and gets nothing or the key, where no other place has it.
 abbrev pub Own : ℕ → Option Record → Type 0
@@ -103,7 +120,7 @@ put_here key r None rs own mine none k = step (eqb key k) refl
   where
     step : (t : Bool) → eqb key k ≡ t → found rs k ≡ cond t None (cond (has_key k r) (pair_in r) (found rs k))
     step true same = ap (found rs) (sym (eqb-true key k same)) ∙ none
-    step false other = sym (ap (λ t. cond t (pair_in r) (found rs k)) (own_test key r own k other))
+    step false other = sym (cond-false _ _ _ (own_test key r own k other))
 put_here key r (Some s) rs own mine none k =
     ap (λ n. cond (eqb n k) (Some s.pair) (found rs k)) mine ∙ skip (eqb key k) (has_key k r) (Some s.pair) (pair_in r) (found rs k) (own_test key r own k)
 
@@ -124,7 +141,7 @@ clear_none key [] i none = none
 clear_none key (r ∷ rs) zero none = (not_there key r (found rs key) none).1
 clear_none key (r ∷ rs) (suc i) none =
     let past = not_there key r (found rs key) none in
-    ap (λ t. cond t (pair_in r) (found (set rs i None) key)) past.0 ∙ clear_none key rs i past.1
+    cond-false _ _ _ past.0 ∙ clear_none key rs i past.1
 
 seen : (key : ℕ) (rs : List (Option Record)) (i : ℕ) → found rs key ≡ None → has_key key (get_or rs i None) ≡ false
 unfolding found
@@ -158,7 +175,7 @@ apart_put key (r ∷ rs) zero (Some s) inside own mine none apart = (ap (found r
 apart_put key (None ∷ rs) (suc i) new inside own mine none apart = apart_put key rs i new (omega arith) own mine none apart
 apart_put key (Some r ∷ rs) (suc i) new inside own mine none apart =
     let past = not_there key (Some r) (found (set rs i None) key) none in
-    (found_put key rs i new (omega arith) own mine past.1 r.key ∙ ap (λ t. cond t (pair_in new) (found rs r.key)) (turned r.key key past.0) ∙ apart.0, apart_put key rs i new (omega arith) own mine past.1 apart.1)
+    (found_put key rs i new (omega arith) own mine past.1 r.key ∙ cond-false _ _ _ (turned r.key key past.0) ∙ apart.0, apart_put key rs i new (omega arith) own mine past.1 apart.1)
 
 pub own_of : (key : ℕ) (r : Option Record) → has_key key r ≡ true → Own key r
 own_of key None own = tt

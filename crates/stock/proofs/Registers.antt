@@ -1,20 +1,21 @@
 -- The register under each call: what is found in it, and what a sum over it comes to. Assumes nothing.
 use Rattle.std.proofs.Common.{◌≡◌, ℕ, ◌+◌, Bool, true, false, cond, eqb, List, [], ◌∷◌, is_some, Some, None, sum_by, Option, sym, refl, ap, ◌∙◌, arith}
 use Rattle.std.specs.List.{AllByRecursion}
-use Rattle.std.proofs.lemmas.Bool.{false≢true, eqb-true}
+use Rattle.std.proofs.lemmas.Bool.{cond-true, cond-false, false≢true, eqb-true}
+use Rattle.std.proofs.lemmas.Option.{same_Some}
 use Rattle.std.proofs.lemmas.List.Sums.{sum_by-cons}
 use Rattle.stock.specs.Register.{Promise, Entry, entry, in_force, exchanged, struck}
 use Rattle.stock.specs.Told.{Once}
-use Rattle.stock.proofs.Keys.{some_inner, swap, skip, other_key, same_key, turned}
+use Rattle.stock.proofs.Keys.{swap, skip, other_key, same_key, turned}
 
 -- past an entry of another key
 past_it : (e : Entry) (es : List Entry) (key : ℕ) → eqb e.key key ≡ false → in_force (e ∷ es) key ≡ in_force es key
 unfolding in_force
-past_it e es key past = ap (λ t. cond t (Some e.promise) (in_force es key)) past
+past_it e es key past = cond-false _ _ _ past
 
 here_it : (e : Entry) (es : List Entry) (key : ℕ) → eqb e.key key ≡ true → in_force (e ∷ es) key ≡ Some e.promise
 unfolding in_force
-here_it e es key here = ap (λ t. cond t (Some e.promise) (in_force es key)) here
+here_it e es key here = cond-true _ _ _ here
 
 -- a new entry
 pub found_entered : (key : ℕ) (p : Promise) (es : List Entry) (k : ℕ) → in_force (entry key p ∷ es) k ≡ cond (eqb key k) (Some p) (in_force es k)
@@ -47,7 +48,7 @@ module _ (key : ℕ) (p : Promise) where
       step next true here = (ap (in_force es) (sym (eqb-true e.key key here)) ∙ h.0, h.1)
       step next false past =
           let later = ap is_some (sym (past_it e es key past)) ∙ some in
-          (found_exchanged es later e.key ∙ ap (λ t. cond t (Some p) (in_force es e.key)) (turned e.key key past) ∙ h.0, next later)
+          (found_exchanged es later e.key ∙ cond-false _ _ _ (turned e.key key past) ∙ h.0, next later)
 
   pub all_exchanged : (P : Entry → Type 0) (es : List Entry) → AllByRecursion P es → P (entry key p) → AllByRecursion P (exchanged key p es)
   unfolding exchanged
@@ -65,7 +66,7 @@ module _ (key : ℕ) (p : Promise) where
     where
       step : (in_force es key ≡ Some old → sum_by (λ x. g x.promise) (exchanged key p es) + g old ≡ sum_by (λ x. g x.promise) es + g p) → (t : Bool) → eqb e.key key ≡ t → sum_by (λ x. g x.promise) (cond t (entry key p ∷ es) (e ∷ exchanged key p es)) + g old ≡ sum_by (λ x. g x.promise) (e ∷ es) + g p
       step next true here =
-          let same : g e.promise ≡ g old = ap g (some_inner (sym (here_it e es key here) ∙ there)) in
+          let same : g e.promise ≡ g old = ap g (same_Some _ _ (sym (here_it e es key here) ∙ there)) in
           omega (arith, same, sum_by-cons (λ x. g x.promise) (entry key p) es, sum_by-cons (λ x. g x.promise) e es)
       step next false past = omega (arith, next (sym (past_it e es key past) ∙ there), sum_by-cons (λ x. g x.promise) e (exchanged key p es), sum_by-cons (λ x. g x.promise) e es)
 
@@ -82,7 +83,7 @@ module _ (key : ℕ) where
     where
       gone : eqb e.key key ≡ true → (t : Bool) → eqb key k ≡ t → in_force es k ≡ cond t None (cond (eqb e.key k) (Some e.promise) (in_force es k))
       gone here true asked = ap (in_force es) (sym (eqb-true e.key key here ∙ eqb-true key k asked)) ∙ h.0
-      gone here false other = sym (ap (λ t. cond t (Some e.promise) (in_force es k)) (same_key e.key key k (eqb-true e.key key here) other))
+      gone here false other = sym (cond-false _ _ _ (same_key e.key key k (eqb-true e.key key here) other))
 
       step : in_force (struck key es) k ≡ cond (eqb key k) None (in_force es k) → (t : Bool) → eqb e.key key ≡ t
           → in_force (cond t es (e ∷ struck key es)) k ≡ cond (eqb key k) None (cond (eqb e.key k) (Some e.promise) (in_force es k))
@@ -96,7 +97,7 @@ module _ (key : ℕ) where
     where
       step : Once (struck key es) → (t : Bool) → eqb e.key key ≡ t → Once (cond t es (e ∷ struck key es))
       step next true here = h.1
-      step next false past = (found_struck es h.1 e.key ∙ ap (λ t. cond t None (in_force es e.key)) (turned e.key key past) ∙ h.0, next)
+      step next false past = (found_struck es h.1 e.key ∙ cond-false _ _ _ (turned e.key key past) ∙ h.0, next)
 
   pub all_struck : (P : Entry → Type 0) (es : List Entry) → AllByRecursion P es → AllByRecursion P (struck key es)
   unfolding struck
@@ -114,6 +115,6 @@ module _ (key : ℕ) where
     where
       step : (in_force es key ≡ Some old → sum_by (λ x. g x.promise) (struck key es) + g old ≡ sum_by (λ x. g x.promise) es) → (t : Bool) → eqb e.key key ≡ t → sum_by (λ x. g x.promise) (cond t es (e ∷ struck key es)) + g old ≡ sum_by (λ x. g x.promise) (e ∷ es)
       step next true here =
-          let same : g e.promise ≡ g old = ap g (some_inner (sym (here_it e es key here) ∙ there)) in
+          let same : g e.promise ≡ g old = ap g (same_Some _ _ (sym (here_it e es key here) ∙ there)) in
           omega (arith, same, sum_by-cons (λ x. g x.promise) e es)
       step next false past = omega (arith, next (sym (past_it e es key past) ∙ there), sum_by-cons (λ x. g x.promise) e (struck key es), sum_by-cons (λ x. g x.promise) e es)

@@ -1,36 +1,17 @@
 -- A run of calls, call by call. Assumes nothing.
-use Rattle.std.proofs.Common.{◌≡◌, ℕ, ◌+◌, ◌<◌, ◌≤◌, List, [], ◌∷◌, ◌++◌, map, length, get_or, take, Option, sym, ap, ◌∙◌, subst}
-use Rattle.std.proofs.lemmas.List.{take_more, take_all, map-append, append_assoc, append-nil}
+use Rattle.std.proofs.Common.{◌≡◌, ℕ, ◌+◌, ◌<◌, List, [], ◌∷◌, ◌++◌, map, length, get_or, take, sym, ap, ◌∙◌}
+use Rattle.std.proofs.lemmas.List.{take_more, map-append, append_assoc}
 use Rattle.basis.specs.Figures.{Figures}
-use Rattle.valuation.specs.declared.pair.Pair.{Pair}
-use Rattle.stock.specs.declared.record.Record.{Record}
 use Rattle.stock.specs.declared.call.Call.{Call as LentCall}
 use Rattle.stock.specs.Handed.{told}
-use Rattle.stock.specs.Register.{Call, Entry, register}
+use Rattle.stock.specs.Register.{Call, Entry}
 use Rattle.stock.specs.Law.{pair_of, totals, EquallyOften}
-use Rattle.stock.specs.Told.{Had, TotalOf}
 use Rattle.stock.proofs.Counting.{equal_sums}
 
--- nothing played, one call more, and all
-pub none_played : (h : List Call) → h ++ [] ≡ h
-none_played h = append-nil h
-
+-- one call more
 pub one_played : (h : List Call) (calls : List LentCall) (n : ℕ) (d : LentCall) → n < length calls → (h ++ map told (take n calls)) ++ told (get_or calls n d) ∷ [] ≡ h ++ map told (take (n + 1) calls)
 one_played h calls n d inside =
     append_assoc h (map told (take n calls)) (told (get_or calls n d) ∷ []) ∙ ap (λ x. h ++ x) (sym (ap (map told) (take_more calls n d inside) ∙ map-append told (take n calls) (get_or calls n d ∷ [])))
-
-pub all_played : (h : List Call) (calls : List LentCall) (n : ℕ) → length calls ≤ n → h ++ map told (take n calls) ≡ h ++ map told calls
-all_played h calls n past = ap (λ x. h ++ map told x) (take_all n calls past)
-
--- what holds on figures and terms that are known to be these
-moved : (P : Figures → ℕ → ℕ → Type 0) (f f' : Figures) (i i' t t' : ℕ) → f' ≡ f → i' ≡ i → t' ≡ t → P f' i' t' → P f i t
-moved P f f' i i' t t' ef ei et x = subst (λ g. P g i t) ef (subst (λ j. P f' j t) ei (subst (λ u. P f' i' u) et x))
-
-pub next_call : (f f' : Figures) (i i' t t' : ℕ) → f' ≡ f → i' ≡ i → t' ≡ t → (h later : List Call) (rs after : List (Option Record)) → Had f i t h rs → (Had f' i' t' h rs → Had f' i' t' later after) → Had f i t later after
-next_call f f' i i' t t' ef ei et h later rs after before play = moved (λ g j u. Had g j u later after) f f' i i' t t' ef ei et (play (moved (λ g j u. Had g j u h rs) f' f i' i t' t (sym ef) (sym ei) (sym et) before))
-
-pub total_after : (f f' : Figures) (i i' t t' : ℕ) → f' ≡ f → i' ≡ i → t' ≡ t → (h : List Call) (rs : List (Option Record)) (total : Pair) → Had f i t h rs → (Had f' i' t' h rs → TotalOf f' i' t' (register f'.final_age h) total) → TotalOf f i t (register f.final_age h) total
-total_after f f' i i' t t' ef ei et h rs total before ask = moved (λ g j u. TotalOf g j u (register g.final_age h) total) f f' i i' t t' ef ei et (ask (moved (λ g j u. Had g j u h rs) f' f i' i t' t (sym ef) (sym ei) (sym et) before))
 
 -- equal figures and terms, and promises equally often: equal totals
 pub equal_totals : (f g : Figures) (i j t u : ℕ) (es ds : List Entry) → f ≡ g → i ≡ j → t ≡ u → EquallyOften es ds → totals f i t es ≡ totals g j u ds

@@ -1,32 +1,25 @@
 -- The places of a stock: what each has, and what is found under a key. Assumes nothing.
-use Rattle.std.specs.Prelude.{◌≡◌, ℕ, ◌<◌, Bool, true, false, cond, not, List, [], ◌∷◌, get_or, is_some, Some, None, count_by, Option, ◌==◌, slice_index_or}
+use Rattle.std.specs.Prelude.{◌≡◌, ℕ, ◌<◌, Bool, true, false, cond, not, List, [], ◌∷◌, get_or, is_some, option_map, None, count_by, Option, ◌==◌, slice_index_or}
+use Rattle.std.specs.Option.{option_map_or}
 use Rattle.fault.specs.declared.Fault.{Fault}
 use Rattle.fault.specs.declared.Refusal.TheVariants.{Known, Unknown, Full}
 use Rattle.fault.specs.Faults.{fault, refuse_if, first_of}
 use Rattle.valuation.specs.declared.pair.Pair.{Pair}
 use Rattle.stock.specs.declared.record.Record.{Record}
 
--- what a place adds to the lower and to the upper total, and whether it counts
+-- what a place adds to the lower and to the upper total
 abbrev pub low_of : Option Record → ℕ
-low_of None = 0
-low_of (Some r) = r.pair.lower
+low_of place = option_map_or (λ r. r.pair.lower) place 0
 
 abbrev pub high_of : Option Record → ℕ
-high_of None = 0
-high_of (Some r) = r.pair.upper
-
-abbrev pub taken : Option Record → Bool
-taken None = false
-taken (Some r) = true
+high_of place = option_map_or (λ r. r.pair.upper) place 0
 
 abbrev pub has_key : ℕ → Option Record → Bool
-has_key key None = false
-has_key key (Some r) = r.key == key
+has_key key place = option_map_or (λ r. r.key == key) place false
 
 -- the pair that is found under a key, if there is one
 abbrev pub pair_in : Option Record → Option Pair
-pair_in None = None
-pair_in (Some r) = Some r.pair
+pair_in place = option_map (λ r. r.pair) place
 
 unfoldable pub found : List (Option Record) → ℕ → Option Pair
 found [] key = None
@@ -46,7 +39,7 @@ pub record Vacant (rs : List (Option Record)) (key i : ℕ) : Type 0 where
 
 -- why there is no place for a new key, and none of a key
 abbrev pub vacancy_fault : List (Option Record) → ℕ → Option Fault
-vacancy_fault rs key = first_of (refuse_if (is_some (found rs key)) (fault Known 0 0)) (refuse_if (count_by taken rs == 512) (fault Full 0 0))
+vacancy_fault rs key = first_of (refuse_if (is_some (found rs key)) (fault Known 0 0)) (refuse_if (count_by is_some rs == 512) (fault Full 0 0))
 
 abbrev pub missing_fault : List (Option Record) → ℕ → Option Fault
 missing_fault rs key = refuse_if (not (is_some (found rs key))) (fault Unknown 0 0)

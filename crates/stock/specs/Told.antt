@@ -1,5 +1,5 @@
 -- How the places of a stock show the register of the calls that it has had. Assumes nothing.
-use Rattle.std.specs.Prelude.{◌≡◌, ℕ, List, [], ◌∷◌, ◌++◌, length, Some, None, sum_by, count_by, Option, Result}
+use Rattle.std.specs.Prelude.{◌≡◌, ℕ, List, [], ◌∷◌, ◌++◌, length, is_some, option_map, Some, None, sum_by, count_by, Option, Result}
 use Rattle.std.specs.List.{AllByRecursion}
 use Rattle.fault.specs.declared.Fault.{Fault}
 use Rattle.fault.specs.Faults.{Outcome}
@@ -7,7 +7,7 @@ use Rattle.basis.specs.Figures.{Figures}
 use Rattle.valuation.specs.declared.pair.Pair.{Pair}
 use Rattle.valuation.specs.Valued.{Valued}
 use Rattle.stock.specs.declared.record.Record.{Record}
-use Rattle.stock.specs.Slots.{low_of, high_of, taken, found}
+use Rattle.stock.specs.Slots.{low_of, high_of, found}
 use Rattle.stock.specs.Register.{Promise, Entry, Call, in_force, refusal, register}
 use Rattle.stock.specs.Law.{Enclosing, pair_of, totals}
 
@@ -23,8 +23,7 @@ Once (e ∷ es) = (in_force es e.key ≡ None) × Once es
 
 module _ (f : Figures) (interest instalments : ℕ) where
   abbrev pub pair_for : Option Promise → Option Pair
-  pair_for None = None
-  pair_for (Some p) = Some (pair_of f interest instalments p)
+  pair_for promise = option_map (pair_of f interest instalments) promise
 
   -- a promise that a valuation has taken, with its pair
   pub record Worthy (p : Promise) (pair : Pair) : Type 0 where
@@ -42,7 +41,7 @@ module _ (f : Figures) (interest instalments : ℕ) where
     pub worth : AllByRecursion Worth es
     pub lows : sum_by low_of rs ≡ (totals f interest instalments es).lower
     pub highs : sum_by high_of rs ≡ (totals f interest instalments es).upper
-    pub counted : count_by taken rs ≡ length es
+    pub counted : count_by is_some rs ≡ length es
 
   -- places of a stock that has had these calls
   abbrev pub Had : List Call → List (Option Record) → Type 0

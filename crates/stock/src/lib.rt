@@ -5,5 +5,6 @@ pub mod call;
 pub mod promise;
 mod record;
 pub mod replay;
+pub mod run;
 mod slots;
 pub mod stock;

@@ -1,7 +1,7 @@
 // A promise as it is handed in.
 use valuation::benefit::Benefit;
 
-#[derive(Clone, Copy)]
+#[derive(Clone, Copy, PartialEq, Eq, Debug)]
 pub struct Promise<'a> {
     pub benefit: Benefit,
     pub age: u32,

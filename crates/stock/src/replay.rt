@@ -1,67 +1,23 @@
 // Calls played to a stock, one or many.
-ghost use Rattle.std.specs.Prelude.{◌≡◌, ◌≤◌, List, ◌++◌, map, length, OnErr, nat_lt};
-ghost use Rattle.stock.specs.Handed.{Answers, promised, told};
-ghost use Rattle.stock.specs.Law.{Enclosing, EquallyOften};
-ghost use Rattle.stock.specs.Register.{Admit, Amend, Call as Calls, register};
-ghost use Rattle.stock.specs.Told.{Had, Heeds, TotalOf};
+ghost use Rattle.std.specs.Prelude.{◌≡◌, List, ◌++◌, map};
+ghost use Rattle.stock.specs.Handed.{told};
+ghost use Rattle.stock.specs.Law.{EquallyOften};
+ghost use Rattle.stock.specs.Register.{Call as Calls};
+ghost use Rattle.stock.specs.Stocks.{AnswerIn, Answered, HasHad, Kept};
+ghost use Rattle.stock.specs.Runs.{Encloses, TotalAfter, in_force_after};
 
 use crate::call::{Answer, Call};
-use crate::promise::Promise;
+use crate::run::Run;
 use crate::stock::Stock;
 use basis::interface::Basis;
 use fault::Fault;
 use valuation::admission::LEAST_COLUMN;
 use valuation::pair::Pair;
-use valuation::terms::Terms;
-
-// How much of the least column is lent for one of a length: a longer one is as good as the least.
-fn lent(column: usize) -> usize
-    ensures inside { result ≤ 512 }
-    ensures alike { nat_lt result 512 ≡ nat_lt column 512 }
-{
-    if column < LEAST_COLUMN {
-        return column;
-    }
-    LEAST_COLUMN
-}
 
 impl<B: Basis> Stock<B> {
-    // Admit and amend with a column of a length.
-    fn admit_with(
-        &mut self,
-        key: u32,
-        promise: Promise<'_>,
-        places: &mut [u64],
-        column: usize,
-    ) -> Result<(), Fault>
-        requires { length places.old ≡ 512 }
-        ensures heeds { Heeds (B.figures self.old.basis) self.old.terms.interest self.old.terms.instalments self.old.slots.records self.new.slots.records (Admit key (promised promise.entry) column) result (λ _ _. Unit {0}) }
-        ensures kept { (self.new.basis ≡ self.old.basis) × (self.new.terms ≡ self.old.terms) }
-        ensures still { OnErr result (self.new ≡ self.old) }
-    {
-        self.admit(key, promise, &mut places[0..lent(column)])
-    }
-
-    fn amend_with(
-        &mut self,
-        key: u32,
-        promise: Promise<'_>,
-        places: &mut [u64],
-        column: usize,
-    ) -> Result<(), Fault>
-        requires { length places.old ≡ 512 }
-        ensures heeds { Heeds (B.figures self.old.basis) self.old.terms.interest self.old.terms.instalments self.old.slots.records self.new.slots.records (Amend key (promised promise.entry) column) result (λ _ _. Unit {0}) }
-        ensures kept { (self.new.basis ≡ self.old.basis) × (self.new.terms ≡ self.old.terms) }
-        ensures still { OnErr result (self.new ≡ self.old) }
-    {
-        self.amend(key, promise, &mut places[0..lent(column)])
-    }
-
-    // Plays one call.
+    // Plays one call. A longer column is as good as the least, and no more of it is lent.
     pub fn play(&mut self, call: Call<'_>) -> Result<Answer, Fault>
-        ensures heeds { Heeds (B.figures self.old.basis) self.old.terms.interest self.old.terms.instalments self.old.slots.records self.new.slots.records (told call.entry) result (Answers (B.figures self.old.basis) self.old.terms.interest self.old.terms.instalments (told call.entry)) }
-        ensures kept { (self.new.basis ≡ self.old.basis) × (self.new.terms ≡ self.old.terms) }
-        ensures still { OnErr result (self.new ≡ self.old) }
+        ensures { Answered B.figures self.old self.new (told call.entry) result (AnswerIn B.figures self.old (told call.entry)) }
     {
         let mut places = [0u64; LEAST_COLUMN];
         match call {
@@ -73,11 +29,11 @@ impl<B: Basis> Stock<B> {
                 Ok(Answer::Done)
             }
             Call::Admit(key, promise, column) => {
-                self.admit_with(key, promise, &mut places, column)?;
+                self.admit(key, promise, &mut places[..column.min(LEAST_COLUMN)])?;
                 Ok(Answer::Done)
             }
             Call::Amend(key, promise, column) => {
-                self.amend_with(key, promise, &mut places, column)?;
+                self.amend(key, promise, &mut places[..column.min(LEAST_COLUMN)])?;
                 Ok(Answer::Done)
             }
         }
@@ -85,8 +41,8 @@ impl<B: Basis> Stock<B> {
 
     // Plays calls one after another; a refused one changes nothing.
     pub fn run(&mut self, calls: &[Call<'_>])
-        ensures had { (h : List Calls) → Had (B.figures self.old.basis) self.old.terms.interest self.old.terms.instalments h self.old.slots.records → Had (B.figures self.old.basis) self.old.terms.interest self.old.terms.instalments (h ++ map told calls.now) self.new.slots.records }
-        ensures kept { (self.new.basis ≡ self.old.basis) × (self.new.terms ≡ self.old.terms) }
+        ensures had { (h : List Calls) → HasHad B.figures self.old h → HasHad B.figures self.new (h ++ map told calls.now) }
+        ensures kept { Kept self.old self.new }
     {
         for call in calls {
             let _ = self.play(*call);
@@ -94,10 +50,15 @@ impl<B: Basis> Stock<B> {
     }
 }
 
-// The totals of a stock that is opened, and has had these calls.
-pub fn replay<B: Basis + Drop>(basis: B, terms: Terms, calls: &[Call<'_>]) -> Pair
-    ensures { TotalOf (B.figures basis) terms.interest terms.instalments (register (B.figures basis).final_age (map told calls.now)) result }
+// The totals of a stock that is opened, and has had a run of calls.
+pub fn replay<B: Basis + Drop>(run: Run<'_, B>) -> Pair
+    ensures { TotalAfter B.figures run.entry result }
 {
+    let Run {
+        basis,
+        terms,
+        calls,
+    } = run;
     let mut stock = Stock::open(basis, terms);
     stock.run(calls);
     stock.total()
@@ -107,17 +68,10 @@ pub fn replay<B: Basis + Drop>(basis: B, terms: Terms, calls: &[Call<'_>]) -> Pa
 // are, granted or refused. The totals of each enclose the exact sum of what its register has in force, and are as near to
 // each other as is promised; and if both have the same figures and terms, and each promise stands equally often in both
 // registers, under whatever keys, the totals are equal.
-pub fn compare<A: Basis + Drop, B: Basis + Drop>(
-    first: A,
-    terms: Terms,
-    calls: &[Call<'_>],
-    second: B,
-    others: Terms,
-    recalls: &[Call<'_>],
-) -> (Pair, Pair)
-    ensures one { Enclosing (A.Basis.figures first) terms.interest terms.instalments (register (A.Basis.figures first).final_age (map told calls.now)) result.0 }
-    ensures other { Enclosing (B.Basis.figures second) others.interest others.instalments (register (B.Basis.figures second).final_age (map told recalls.now)) result.1 }
-    ensures equal { A.Basis.figures first ≡ B.Basis.figures second → terms.interest ≡ others.interest → terms.instalments ≡ others.instalments → EquallyOften (register (A.Basis.figures first).final_age (map told calls.now)) (register (B.Basis.figures second).final_age (map told recalls.now)) → result.0 ≡ result.1 }
+pub fn compare<A: Basis + Drop, B: Basis + Drop>(one: Run<'_, A>, other: Run<'_, B>) -> (Pair, Pair)
+    ensures one { Encloses A.figures one.entry result.0 }
+    ensures other { Encloses B.figures other.entry result.1 }
+    ensures equal { A.figures one.entry.basis ≡ B.figures other.entry.basis → one.entry.terms.interest ≡ other.entry.terms.interest → one.entry.terms.instalments ≡ other.entry.terms.instalments → EquallyOften (in_force_after A.figures one.entry) (in_force_after B.figures other.entry) → result.0 ≡ result.1 }
 {
-    (replay(first, terms, calls), replay(second, others, recalls))
+    (replay(one), replay(other))
 }

@@ -1,7 +1,7 @@
 // The inner table of a stock: its places, and the totals carried forward.
-ghost use Rattle.std.specs.Prelude.{◌≡◌, ◌<◌, length, replicate, if◌then◌else◌, Some, None, sum_by, count_by, MatchOption, slice_index_or, slice_set};
+ghost use Rattle.std.specs.Prelude.{◌≡◌, ◌<◌, length, replicate, Some, None, is_none, is_some, sum_by, count_by, position, slice_set};
 ghost use Rattle.fault.specs.Faults.{Outcome};
-ghost use Rattle.stock.specs.Slots.{Holds, Vacant, found, has_key, high_of, low_of, missing_fault, taken, vacancy_fault};
+ghost use Rattle.stock.specs.Slots.{Holds, Vacant, found, has_key, high_of, low_of, missing_fault, vacancy_fault};
 
 use crate::record::Record;
 use fault::{Fault, Refusal};
@@ -9,6 +9,9 @@ use valuation::pair::Pair;
 
 // How many promises a stock has room for.
 pub(crate) const PLACES: usize = 512;
+
+// What a free place adds to the totals.
+const NOTHING: Pair = Pair { lower: 0, upper: 0 };
 
 #[derive(Drop)]
 pub(crate) struct Slots {
@@ -19,35 +22,15 @@ pub(crate) struct Slots {
     ghost full: { length records ≡ 512 },
     ghost lows: { lower ≡ sum_by low_of records },
     ghost highs: { upper ≡ sum_by high_of records },
-    ghost counted: { count ≡ count_by taken records },
+    ghost counted: { count ≡ count_by is_some records },
 }
 
-// What a place adds to the totals and to the count.
-fn lower_of(place: Option<Record>) -> u64
-    ensures { result ≡ low_of place }
+// What a place adds to the totals.
+fn adds(place: Option<Record>) -> Pair
+    ensures low { result.lower ≡ low_of place }
+    ensures high { result.upper ≡ high_of place }
 {
-    match place {
-        Some(record) => record.pair.lower,
-        None => 0,
-    }
-}
-
-fn upper_of(place: Option<Record>) -> u64
-    ensures { result ≡ high_of place }
-{
-    match place {
-        Some(record) => record.pair.upper,
-        None => 0,
-    }
-}
-
-fn count_of(place: Option<Record>) -> u64
-    ensures { result ≡ (if taken place then 1 else 0) }
-{
-    match place {
-        Some(_) => 1,
-        None => 0,
-    }
+    place.map_or(NOTHING, |record| record.pair)
 }
 
 impl Slots {
@@ -69,43 +52,34 @@ impl Slots {
     {
         let old = self.records[place];
         self.records[place] = new;
-        self.lower = self.lower - lower_of(old) + lower_of(new);
-        self.upper = self.upper - upper_of(old) + upper_of(new);
-        self.count = self.count - count_of(old) + count_of(new);
+        let removed = adds(old);
+        let added = adds(new);
+        self.lower = self.lower - removed.lower + added.lower;
+        self.upper = self.upper - removed.upper + added.upper;
+        self.count = self.count - u64::from(old.is_some()) + u64::from(new.is_some());
     }
 
     // The place of a key, if it has one.
     fn place_of(&self, key: u32) -> Option<usize>
-        ensures { MatchOption result (found self.now.records key ≡ None) (Holds self.now.records key) }
+        ensures { result ≡ position (has_key key) self.now.records }
     {
-        for (i, place) in self.records.iter().enumerate() {
-            if has_key(*place, key) {
-                return Some(i);
-            }
-        }
-        None
+        self.records
+            .iter()
+            .position(|place| place.is_some_and(|record| record.key == key))
     }
 
     // A free place, if there is one.
     fn free(&self) -> Option<usize>
-        ensures { MatchOption result (self.now.count ≡ 512) (λ i. (i < 512) × (slice_index_or self.now.records i None ≡ None) × (self.now.count < 512)) }
+        ensures { result ≡ position is_none self.now.records }
     {
-        for (i, free) in self.records.iter().enumerate() {
-            if free.is_none() {
-                return Some(i);
-            }
-        }
-        None
+        self.records.iter().position(|place| place.is_none())
     }
 
     // The place of a key that is in force.
     pub(crate) fn held(&self, key: u32) -> Result<usize, Fault>
         ensures { Outcome result (missing_fault self.now.records key) (Holds self.now.records key) }
     {
-        match self.place_of(key) {
-            Some(place) => Ok(place),
-            None => Err(Fault::new(Refusal::Unknown, 0, 0)),
-        }
+        self.place_of(key).ok_or(Fault::new(Refusal::Unknown, 0, 0))
     }
 
     // A place for a key that is not.
@@ -115,10 +89,7 @@ impl Slots {
         if self.place_of(key).is_some() {
             return Err(Fault::new(Refusal::Known, 0, 0));
         }
-        match self.free() {
-            Some(place) => Ok(place),
-            None => Err(Fault::new(Refusal::Full, 0, 0)),
-        }
+        self.free().ok_or(Fault::new(Refusal::Full, 0, 0))
     }
 
     // The pair of a key that is in force.
@@ -127,14 +98,5 @@ impl Slots {
     {
         let place = self.held(key)?;
         Ok(self.records[place].unwrap().pair)
-    }
-}
-
-fn has_key(place: Option<Record>, key: u32) -> bool
-    ensures { result ≡ has_key key place }
-{
-    match place {
-        Some(record) => record.key == key,
-        None => false,
     }
 }

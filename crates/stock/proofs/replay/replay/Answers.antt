@@ -1,14 +1,14 @@
-use Rattle.std.proofs.Common.{[], map, ap, ◌∙◌}
+use Rattle.std.proofs.Common.{[], map, sym, ◌∙◌}
 use Rattle.stock.specs.Handed.{told}
-use Rattle.stock.proofs.Running.{next_call, total_after}
+use Rattle.stock.specs.Register.{register}
+use Rattle.stock.specs.Told.{TotalOf}
+use Rattle.stock.proofs.Answering.{moved}
 use Rattle.stock.proofs.replay.replay.Goals as goal
 
 pub returns : goal.returns
 returns g c =
-    let f = g.B.Basis.figures c.args.basis in
-    let terms = c.args.terms in
-    let opened = c.open-stock.ensures.kept in
-    let ran = c.run.ensures.kept in
-    let h = map told c.args.calls.now in
-    let had = next_call f _ terms.interest _ terms.instalments _ (ap g.B.Basis.figures opened.0) (ap (λ x. x.interest) opened.1) (ap (λ x. x.instalments) opened.1) [] h _ _ c.open-stock.ensures.had (c.run.ensures.had []) in
-    total_after f _ terms.interest _ terms.instalments _ (ap g.B.Basis.figures (ran.0 ∙ opened.0)) (ap (λ x. x.interest) (ran.1 ∙ opened.1)) (ap (λ x. x.instalments) (ran.1 ∙ opened.1)) h _ c.total.result had (λ there. (c.total.ensures.heeds h there).0)
+    let opened = c.open-stock.ensures in
+    let ran = c.run.ensures in
+    let h = map told c.args.run.calls.now in
+    moved g.B.Basis.figures (λ f i t. TotalOf f i t (register f.final_age h) c.total.result) c.run.new.self.basis c.args.run.basis c.run.new.self.terms c.args.run.terms (sym (ran.kept.0 ∙ opened.kept.0)) (sym (ran.kept.1 ∙ opened.kept.1))
+    (c.total.ensures h (ran.had [] opened.had)).0

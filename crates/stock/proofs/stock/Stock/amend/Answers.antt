@@ -1,38 +1,23 @@
-use Rattle.std.proofs.Common.{sym, refl, ◌∙◌, subst}
+use Rattle.std.proofs.Common.{Err, sym, refl, ap, ◌∙◌, subst}
 use Rattle.std.proofs.lemmas.Result.{err_from_is_err_and}
 use Rattle.fault.proofs.Firsts.{passed_on}
 use Rattle.stock.specs.Handed.{promised}
 use Rattle.stock.specs.Register.{Amend}
 use Rattle.stock.specs.Told.{Shows}
+use Rattle.stock.proofs.Answering.{refused, grants}
 use Rattle.stock.proofs.Showing.{shows_amend}
-use Rattle.stock.proofs.Heeding.{first_is, missing_is, had_refused, had_granted}
+use Rattle.stock.proofs.Heeding.{missing_is}
 use Rattle.stock.proofs.stock.Stock.amend.Goals as goal
-
-pub returns-in_err-changed : goal.returns-in_err-changed
-returns-in_err-changed g c =
-    let p = err_from_is_err_and c.from_residual.result c.from_residual.ensures.1 in
-    record {
-      heeds = λ h had. let why = first_is _ _ _ c.in_err-changed.ensures in (rw (p.1, p.2) why, had_refused (g.B.Basis.figures c.args.self.now.basis) c.args.self.now.terms.interest c.args.self.now.terms.instalments h (Amend c.args.key (promised c.args.promise) _) _ _ had why);
-      kept = (refl, refl);
-      still = rw p.1 refl;
-    }
 
 pub returns-in_err-place : goal.returns-in_err-place
 returns-in_err-place g c =
     let p = err_from_is_err_and c.from_residual-in_err-place.result c.from_residual-in_err-place.ensures.1 in
-    record {
-      heeds = λ h had. let why = passed_on _ _ c.in_ok-changed.ensures.0 ∙ missing_is (g.B.Basis.figures c.args.self.now.basis) c.args.self.now.terms.interest c.args.self.now.terms.instalments _ _ c.args.key had ∙ c.in_err-place.ensures in (rw (p.1, p.2) why, had_refused (g.B.Basis.figures c.args.self.now.basis) c.args.self.now.terms.interest c.args.self.now.terms.instalments h (Amend c.args.key (promised c.args.promise) _) _ _ had why);
-      kept = (refl, refl);
-      still = rw p.1 refl;
-    }
+    refused g.B.Basis.figures c.args.self.now (Amend c.args.key (promised c.args.promise) _) _ _ _ (p.1 ∙ ap Err p.2) (λ h had. passed_on _ _ c.in_ok-changed.ensures.0 ∙ missing_is _ _ _ _ _ c.args.key had ∙ c.in_err-place.ensures)
 
 pub returns : goal.returns
-returns g c = record {
-  heeds = λ h had. let none = passed_on _ _ c.in_ok-changed.ensures.0 ∙ missing_is (g.B.Basis.figures c.args.self.now.basis) c.args.self.now.terms.interest c.args.self.now.terms.instalments _ _ c.args.key had ∙ c.in_ok-place.ensures.0 in (
-    (none, tt),
-    had_granted (g.B.Basis.figures c.args.self.now.basis) c.args.self.now.terms.interest c.args.self.now.terms.instalments h (Amend c.args.key (promised c.args.promise) _) _ none
-        (subst (Shows (g.B.Basis.figures c.args.self.now.basis) c.args.self.now.terms.interest c.args.self.now.terms.instalments _) (sym c.put.ensures) (shows_amend (g.B.Basis.figures c.args.self.now.basis) c.args.self.now.terms.interest c.args.self.now.terms.instalments _ _ c.args.key c.in_ok-place.place _ c.in_ok-changed.changed had c.args.self.now.slots.full c.in_ok-place.ensures.1 c.in_ok-changed.ensures.1.0 c.in_ok-changed.ensures.1.1)),
-  );
-  kept = (refl, refl);
-  still = tt;
-}
+returns g c = grants g.B.Basis.figures c.args.self.now _ (Amend c.args.key (promised c.args.promise) _) _ _ (refl, refl) (λ h had. (
+  passed_on _ _ c.in_ok-changed.ensures.0 ∙ missing_is _ _ _ _ _ c.args.key had ∙ c.in_ok-place.ensures.0,
+  tt,
+  subst (Shows _ _ _ _) (sym c.put.ensures)
+      (shows_amend _ _ _ _ _ c.args.key c.in_ok-place.place _ c.in_ok-changed.changed had c.args.self.now.slots.full c.in_ok-place.ensures.1 c.in_ok-changed.ensures.1.0 c.in_ok-changed.ensures.1.1),
+))
