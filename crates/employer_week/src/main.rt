@@ -14,6 +14,7 @@ use std::str::SplitWhitespace;
 use std::{env, fs, io};
 use stock::call::{Answer, Call};
 use stock::replay::compare;
+use stock::run::Run;
 use stock::stock::Stock;
 use table::{LONGEST_BOOK, Table};
 use valuation::admission::LEAST_COLUMN;
@@ -256,34 +257,9 @@ fn end_of_week(raised: &[u32]) -> [Call<'_>; 3] {
     ]
 }
 
-fn print_call(rt: &HostRuntime, call: Call<'_>) -> io::Result<()> {
-    match call {
-        Call::Total => print!(rt; "total: "),
-        Call::Count => print!(rt; "count: "),
-        Call::Promise(key) => print!(rt; "promise {key}: "),
-        Call::Release(key) => print!(rt; "release {key}: "),
-        Call::Admit(key, promise, _) => {
-            let name = promise.benefit.name();
-            let age = promise.age;
-            print!(rt; "admit {key} {name} {age}: ")
-        }
-        Call::Amend(key, promise, _) => {
-            let name = promise.benefit.name();
-            let age = promise.age;
-            print!(rt; "amend {key} {name} {age}: ")
-        }
-    }
-}
-
 fn print_answer(rt: &HostRuntime, answer: Result<Answer, Fault>) -> io::Result<()> {
     match answer {
-        Ok(Answer::Done) => println!(rt; "done"),
-        Ok(Answer::Number(n)) => println!(rt; "{n}"),
-        Ok(Answer::Cents(pair)) => {
-            let lower = pair.lower;
-            let upper = pair.upper;
-            println!(rt; "{lower} to {upper} cents")
-        }
+        Ok(answer) => println!(rt; "{answer}"),
         Err(fault) => println!(rt; "refused {fault}"),
     }
 }
@@ -294,7 +270,7 @@ fn keep_week<B: Basis + Drop>(rt: &HostRuntime, basis: B, terms: Terms) -> io::R
     let mut stock = Stock::open(basis, terms);
     let raised = raised();
     for call in week(&raised) {
-        print_call(rt, call)?;
+        print!(rt; "{call}: ")?;
         print_answer(rt, stock.play(call))?;
     }
     Ok(())
@@ -307,14 +283,17 @@ fn second_clerk(rt: &HostRuntime, table: Table, order: &Order, terms: Terms) -> 
     let shift = Shift::new(order.shift)?;
     let loading = Loading::new(order.loading)?;
     let raised = raised();
-    let (first, second) = compare(
-        lay(table, shift, loading),
+    let kept = Run {
+        basis: lay(table, shift, loading),
         terms,
-        &week(&raised),
-        lay(reread, shift, loading),
+        calls: &week(&raised),
+    };
+    let recounted = Run {
+        basis: lay(reread, shift, loading),
         terms,
-        &end_of_week(&raised),
-    );
+        calls: &end_of_week(&raised),
+    };
+    let (first, second) = compare(kept, recounted);
     print!(rt; "the bookkeeper's total: ")?;
     print_answer(rt, Ok(Answer::Cents(first)))?;
     print!(rt; "the second clerk's: ")?;

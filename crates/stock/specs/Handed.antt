@@ -2,7 +2,7 @@
 use Rattle.std.specs.Prelude.{◌≡◌, ℕ, List, length}
 use Rattle.basis.specs.Figures.{Figures}
 use Rattle.valuation.specs.declared.pair.Pair.{Pair}
-use Rattle.stock.specs.declared.promise.Promise.{Promise as LentPromise}
+use Rattle.valuation.specs.declared.promise.Promise.{Promise as LentPromise}
 use Rattle.stock.specs.declared.call.Call.{Call as LentCall}
 use Rattle.stock.specs.declared.call.Call.TheVariants.{Total as LentTotal, Count as LentCount, Promise as LentAsk, Release as LentRelease, Admit as LentAdmit, Amend as LentAmend}
 use Rattle.stock.specs.declared.call.Answer.{Answer}

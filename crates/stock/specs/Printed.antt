@@ -1,7 +1,7 @@
 -- A call and an answer as they are printed. Assumes nothing.
 use Rattle.std.specs.Prelude.{ℕ, List, ◌++◌, codes, decimal}
 use Rattle.valuation.specs.Benefits.{name}
-use Rattle.stock.specs.declared.promise.Promise.{Promise}
+use Rattle.valuation.specs.declared.promise.Promise.{Promise}
 use Rattle.stock.specs.declared.call.Call.{Call}
 use Rattle.stock.specs.declared.call.Call.TheVariants.{Total, Count, Promise as Ask, Release, Admit, Amend}
 use Rattle.stock.specs.declared.call.Answer.{Answer}

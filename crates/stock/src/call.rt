@@ -2,9 +2,9 @@
 ghost use Rattle.std.specs.Prelude.{Some};
 ghost use Rattle.stock.specs.Printed.{answer_text, call_text};
 
-use crate::promise::Promise;
 use std::fmt;
 use valuation::pair::Pair;
+use valuation::promise::Promise;
 
 // A call with its arguments: a key, a promise, and of the lent column its length.
 #[derive(Clone, Copy, PartialEq, Eq, Debug)]
@@ -35,15 +35,11 @@ impl fmt::Display for Call<'_> {
             Call::Count => write!(f, "count"),
             Call::Promise(key) => write!(f, "promise {key}"),
             Call::Release(key) => write!(f, "release {key}"),
-            Call::Admit(key, promise, _) => {
-                let name = promise.benefit.name();
-                let age = promise.age;
-                write!(f, "admit {key} {name} {age}")
+            Call::Admit(key, Promise { benefit, age, .. }, _) => {
+                write!(f, "admit {key} {benefit} {age}")
             }
-            Call::Amend(key, promise, _) => {
-                let name = promise.benefit.name();
-                let age = promise.age;
-                write!(f, "amend {key} {name} {age}")
+            Call::Amend(key, Promise { benefit, age, .. }, _) => {
+                write!(f, "amend {key} {benefit} {age}")
             }
         }
     }
@@ -56,11 +52,7 @@ impl fmt::Display for Answer {
     fn fmt<W: fmt::Write>(&self, f: &mut fmt::Formatter<W>) -> fmt::Result {
         match self {
             Answer::Done => write!(f, "done"),
-            Answer::Cents(pair) => {
-                let lower = pair.lower;
-                let upper = pair.upper;
-                write!(f, "{lower} to {upper} cents")
-            }
+            Answer::Cents(pair) => write!(f, "{pair} cents"),
             Answer::Number(number) => write!(f, "{number}"),
         }
     }

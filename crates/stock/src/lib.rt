@@ -2,7 +2,6 @@
 #![tactic(auto)]
 
 pub mod call;
-pub mod promise;
 mod record;
 pub mod replay;
 pub mod run;

@@ -79,7 +79,7 @@ impl Slots {
     pub(crate) fn held(&self, key: u32) -> Result<usize, Fault>
         ensures { Outcome result (missing_fault self.now.records key) (Holds self.now.records key) }
     {
-        self.place_of(key).ok_or(Fault::new(Refusal::Unknown, 0, 0))
+        self.place_of(key).ok_or(Refusal::Unknown.into())
     }
 
     // A place for a key that is not.
@@ -87,9 +87,9 @@ impl Slots {
         ensures { Outcome result (vacancy_fault self.now.records key) (Vacant self.now.records key) }
     {
         if self.place_of(key).is_some() {
-            return Err(Fault::new(Refusal::Known, 0, 0));
+            return Err(Refusal::Known.into());
         }
-        self.free().ok_or(Fault::new(Refusal::Full, 0, 0))
+        self.free().ok_or(Refusal::Full.into())
     }
 
     // The pair of a key that is in force.

@@ -5,12 +5,12 @@ ghost use Rattle.stock.specs.Handed.{promised};
 ghost use Rattle.stock.specs.Register.{Admit, Amend, Ask, Count, Release, Total, promise_fault};
 ghost use Rattle.stock.specs.Stocks.{Answered, HasHad, Heeded, PairIn, Silent, Tells, TotalIn, WorthyIn};
 
-use crate::promise::Promise;
 use crate::record::Record;
 use crate::slots::Slots;
 use basis::interface::Basis;
 use fault::Fault;
 use valuation::pair::Pair;
+use valuation::promise::Promise;
 use valuation::terms::Terms;
 use valuation::value::value;
 
@@ -39,14 +39,7 @@ impl<B: Basis> Stock<B> {
     fn worth(&self, key: u32, promise: Promise<'_>, column: &mut [u64]) -> Result<Record, Fault>
         ensures { Outcome result (promise_fault (B.figures self.now.basis).final_age (promised promise.entry) (length column.old)) (λ x. (x.key ≡ key) × WorthyIn B.figures self.now (promised promise.entry) x.pair) }
     {
-        let pair = value(
-            &self.basis,
-            self.terms,
-            promise.benefit,
-            promise.age,
-            promise.amounts,
-            column,
-        )?;
+        let pair = value(&self.basis, self.terms, promise, column)?;
         Ok(Record { key, pair })
     }
 

@@ -123,10 +123,11 @@ abbrev pub seam_fault : Figures → Option Fault
 seam_fault f = first_below 121 (seam_fault_at f)
 
 -- and a death at the last age that is not certain
+abbrev pub end_fault : Figures → Kind → Option Fault
+end_fault f k = refuse_if (not (f.figure k 120 == 1000000)) (fault OpenEnd (rank k) 120)
+
 abbrev pub open_end_fault : Figures → Option Fault
-open_end_fault f =
-    first_of (refuse_if (not (f.figure InvalidDeath 120 == 1000000)) (fault OpenEnd 3 120))
-    (refuse_if (not (f.figure WidowDeath 120 == 1000000)) (fault OpenEnd 5 120))
+open_end_fault f = first_of (end_fault f InvalidDeath) (end_fault f WidowDeath)
 
 abbrev pub figures_fault : Figures → Option Fault
 figures_fault f = first_of (limit_fault f) (first_of (exits_fault f) (first_of (seam_fault f) (open_end_fault f)))

@@ -1,6 +1,6 @@
 // Whether rows obey the laws of a basis: the first place where they do not, by the order of the checks.
 ghost use Rattle.std.specs.Prelude.{◌≡◌, ℕ, Option};
-ghost use Rattle.table.specs.Book.{ChecksAges, list_fault, limit_fault, exits_fault, seam_fault, open_end_fault, figures_fault};
+ghost use Rattle.table.specs.Book.{ChecksAges, list_fault, limit_fault, exits_fault, seam_fault, end_fault, open_end_fault, figures_fault};
 ghost use Rattle.fault.specs.Faults.{Outcome, fault, first_below};
 ghost use Rattle.basis.specs.Figures.{rank};
 ghost use Rattle.table.specs.Table.{tabled};

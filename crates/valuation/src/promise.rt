@@ -3,7 +3,7 @@ ghost use Rattle.std.specs.Prelude.{ℕ, ◌≤◌, length, slice_index};
 
 use crate::benefit::Benefit;
 
-#[derive(Clone, Copy)]
+#[derive(Clone, Copy, PartialEq, Eq, Debug)]
 pub struct Promise<'a> {
     pub benefit: Benefit,
     pub age: u32,
