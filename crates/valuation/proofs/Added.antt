@@ -1,5 +1,5 @@
 -- A loop that adds up a sum's terms from the first on. Assumes nothing.
-use Rattle.std.proofs.Common.{◌≡◌, ℕ, zero, suc, ◌+◌, ◌-◌, ◌*◌, ◌<◌, ◌≤◌, refl, ap, ◌∙◌, mul-le-mul_right, mul-le-mul, mul-pos, arith}
+use Rattle.std.proofs.Common.{◌≡◌, ℕ, zero, suc, ◌+◌, ◌-◌, ◌*◌, ◌<◌, ◌≤◌, refl, ap, ◌∙◌, mul-le-mul_right, mul-pos, arith}
 use Rattle.std.proofs.Math.Nat.{div-le_of_le-mul}
 use Rattle.valuation.specs.Fixed.{scale, fixed, product}
 use Rattle.valuation.specs.Rates.{added}
@@ -30,12 +30,6 @@ loss_small interest t m h l = omega (arith, mul-le-mul_right (10000 * t) h, mul-
 
 pub kept_small : (interest t m : ℕ) → 0 < t → 10000 * (t - m) ≤ t * (10000 * t + m * interest)
 kept_small interest t m h = omega (arith, mul-le-mul_right (10000 * t) h)
-
-pub whole_bound : (interest t m : ℕ) → interest ≤ 2000 → t ≤ 12 → m < t → t * (10000 * t + m * interest) ≤ 2000000
-whole_bound interest t m h few l = omega (arith, mul-le-mul few few, mul-le-mul few (mul-le-mul (omega_lt m t l few) h))
-  where
-    omega_lt : (m t : ℕ) → m < t → t ≤ 12 → m ≤ 12
-    omega_lt m t l few = omega arith
 
 pub fixed_small : (n d : ℕ) → n ≤ d → fixed n d ≤ scale
 fixed_small n d h = div-le_of_le-mul d (mul-le-mul_right scale h)

@@ -1,10 +1,7 @@
 -- The laws of fractions. Assumes nothing.
-use Rattle.std.proofs.Common.{◌*◌, sym, refl, ap, mul-le-mul_right, mul-le-mul, mul-pos, le_of_mul-le-mul_right, arith}
+use Rattle.std.proofs.Common.{◌*◌, sym, ap, mul-pos, arith}
 use Rattle.std.proofs.Math.Nat.{eq_of_mul-eq-mul_right}
-use Rattle.valuation.specs.Fraction.{Fraction, Proper, ◌⊕◌, ◌⊗◌, ◌≈◌, ◌≼◌}
-
-pub same_refl : (x : Fraction) → x ≈ x
-same_refl x = refl
+use Rattle.valuation.specs.Fraction.{Fraction, Proper, ◌⊕◌, ◌⊗◌, ◌≈◌}
 
 pub same_sym : (x y : Fraction) → x ≈ y → y ≈ x
 same_sym x y h = sym h
@@ -19,20 +16,6 @@ same_add x x' y y' h k =
 
 pub same_mul : (x x' y y' : Fraction) → x ≈ x' → y ≈ y' → x ⊗ y ≈ x' ⊗ y'
 same_mul x x' y y' h k = omega (arith, ap (λ n. n * (y.num * y'.den)) h, ap (λ n. (x'.num * x.den) * n) k)
-
--- Order.
-pub at_most_same : (x y : Fraction) → x ≈ y → x ≼ y
-at_most_same x y h = omega (arith, h)
-
-pub at_most_trans : (x y z : Fraction) → Proper y → x ≼ y → y ≼ z → x ≼ z
-at_most_trans x y z proper h k =
-    le_of_mul-le-mul_right {k = y.den} (omega (arith, mul-le-mul_right z.den h, mul-le-mul_right x.den k)) proper
-
-pub at_most_add : (x x' y y' : Fraction) → x ≼ x' → y ≼ y' → x ⊕ y ≼ x' ⊕ y'
-at_most_add x x' y y' h k = omega (arith, mul-le-mul_right (y.den * y'.den) h, mul-le-mul_right (x.den * x'.den) k)
-
-pub at_most_mul : (x x' y y' : Fraction) → x ≼ x' → y ≼ y' → x ⊗ y ≼ x' ⊗ y'
-at_most_mul x x' y y' h k = omega (arith, mul-le-mul h k)
 
 -- Denominators stay above 0.
 pub proper_add : (x y : Fraction) → Proper x → Proper y → Proper (x ⊕ y)

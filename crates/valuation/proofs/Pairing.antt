@@ -16,9 +16,8 @@ use Rattle.valuation.specs.Exact.{exact_cents, paid, lives, stays, survives, sha
 use Rattle.valuation.specs.Fixed.{scale, product, Stands}
 use Rattle.valuation.specs.Rates.{kept_number, loss_number, paid_number}
 use Rattle.valuation.specs.Pair.{running, slack, weight, stays_on, goes_on, share_number, survival_number, level_number, pension_number, widowed_number, turning_invalid_number, turning_invalid_widow_number, low_units, high_units, lower_cents, upper_cents, lower, upper}
-use Rattle.valuation.specs.declared.stream.Level.{Level}
 use Rattle.valuation.specs.declared.stream.Stream.{Stream}
-use Rattle.valuation.specs.Streams.{retires_to, stream_of, turns_to}
+use Rattle.valuation.specs.Streams.{stream_of}
 use Rattle.valuation.specs.Columns.{Reads, WidowsFor, level_share}
 use Rattle.valuation.specs.ActivePath.{active_share, below_number, final_number}
 use Rattle.valuation.specs.Enclosure.{PairsEnclose}
@@ -409,52 +408,6 @@ module _ (f : Figures) (interest t : ℕ) (widows : List ℕ) where
 
   pub reads_stream : (b : Benefit) (s : Stream) → stream_of b ≡ Some s → WidowsFor f interest t b widows → Reads f interest t s.level widows
   reads_stream b s same h = subst ReadsOf same (reads_of b h)
-
-  abbrev ReadsLevel : Option Level → Type 0
-  ReadsLevel None = Unit {0}
-  ReadsLevel (Some level) = Reads f interest t level widows
-
-  retired_reads : (b : Benefit) → WidowsFor f interest t b widows → ReadsLevel (retires_to b)
-  retired_reads Retired h = tt
-  retired_reads Population h = tt
-  retired_reads Invalid h = tt
-  retired_reads Widow h = tt
-  retired_reads RetiredWidow h = tt
-  retired_reads PopulationWidow h = tt
-  retired_reads InvalidWidow h = tt
-  retired_reads Active h = tt
-  retired_reads ActiveRetirement h = tt
-  retired_reads ActiveInvalidity h = tt
-  retired_reads ActiveInvalidityRetirement h = tt
-  retired_reads ActiveDeathWidow h = tt
-  retired_reads ActiveRetiredWidow h = h refl
-  retired_reads ActiveOrRetiredWidow h = h refl
-  retired_reads ActiveInvalidWidow h = tt
-  retired_reads ActiveWidow h = h refl
-
-  pub reads_retirement : (b : Benefit) (level : Level) → retires_to b ≡ Some level → WidowsFor f interest t b widows → Reads f interest t level widows
-  reads_retirement b level same h = subst ReadsLevel same (retired_reads b h)
-
-  turned_reads : (b : Benefit) → WidowsFor f interest t b widows → ReadsLevel (turns_to b)
-  turned_reads Retired h = tt
-  turned_reads Population h = tt
-  turned_reads Invalid h = tt
-  turned_reads Widow h = tt
-  turned_reads RetiredWidow h = tt
-  turned_reads PopulationWidow h = tt
-  turned_reads InvalidWidow h = tt
-  turned_reads Active h = tt
-  turned_reads ActiveRetirement h = tt
-  turned_reads ActiveInvalidity h = tt
-  turned_reads ActiveInvalidityRetirement h = tt
-  turned_reads ActiveDeathWidow h = tt
-  turned_reads ActiveRetiredWidow h = tt
-  turned_reads ActiveOrRetiredWidow h = tt
-  turned_reads ActiveInvalidWidow h = h refl
-  turned_reads ActiveWidow h = h refl
-
-  pub reads_invalidity : (b : Benefit) (level : Level) → turns_to b ≡ Some level → WidowsFor f interest t b widows → Reads f interest t level widows
-  reads_invalidity b level same h = subst ReadsLevel same (turned_reads b h)
 
 -- What an active's path reads is modest.
 pub active_at : (f : Figures) (interest t : ℕ) (b : Benefit) (x : ℕ) → f.final_age ≤ x → active_share f interest t b x ≡ final_number f interest t b

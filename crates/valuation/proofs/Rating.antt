@@ -151,10 +151,6 @@ stands_paid interest t p n h few proper small bound s =
     (stands_sum (kept_number interest t) (product (loss_number interest t) n) R (K ⊗ d) t (1 + t * 1 + 3) (stands_kept interest t h)
     (stands_product (loss_number interest t) n K d t 3 1 K-small (omega arith) (stands_loss interest t h) s)))
 
--- one year's chances
-pub stands_chance : (q : ℕ) → Stands (fixed q 1000000) (ratio q 1000000) 1
-stands_chance q = stands_fixed q 1000000 (omega arith)
-
 -- the discounted chance to live: v·p
 pub stands_discounted : (interest : ℕ) (p : Fraction) (n : ℕ) → p.num ≤ p.den → n ≤ scale → Stands n p 1 → Stands (product (discount_number interest) n) (discount interest ⊗ p) 3
 stands_discounted interest p n small bound s =

@@ -82,9 +82,14 @@ impl Rates {
 
     // Puts the value of a stream of amount 1 a year at each age into a part, from the last age down. The loop counts the
     // ages itself, since nothing is known of what is written through a reversed iterator.
-    pub(crate) fn fill<B: Basis>(&self, basis: &B, widows: &[u64], stream: Stream, part: &mut [u64])
-        requires reads { Reads (B.figures basis.now) self.now.interest self.now.instalments stream.level widows.now }
-        requires long { length part.old ≡ 121 }
+    pub(crate) fn fill<B: Basis>(
+        &self,
+        basis: &B,
+        widows: &[u64],
+        stream: Stream,
+        part: &mut [u64; AGES],
+    )
+        requires { Reads (B.figures basis.now) self.now.interest self.now.instalments stream.level widows.now }
         ensures { Filled (level_of (B.figures basis.now) self.now.interest self.now.instalments stream.population stream.level) part.new }
     {
         let mut later = 0;

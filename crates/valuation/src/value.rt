@@ -29,8 +29,7 @@ const UNIT: u64 = 1_048_576;
 
 impl Rates {
     // Puts the widows' annuities into their part, if the benefit leaves a widow's pension.
-    fn fill_widows<B: Basis>(&self, basis: &B, benefit: Benefit, widows: &mut [u64])
-        requires { length widows.old ≡ 121 }
+    fn fill_widows<B: Basis>(&self, basis: &B, benefit: Benefit, widows: &mut [u64; AGES])
         ensures { WidowsFor (B.figures basis.now) self.now.interest self.now.instalments benefit widows.new }
     {
         if benefit.leaves_widow() {
@@ -48,10 +47,9 @@ impl Rates {
         basis: &B,
         benefit: Benefit,
         widows: &[u64],
-        part: &mut [u64],
+        part: &mut [u64; AGES],
     ) -> u64
-        requires widows { WidowsFor (B.figures basis.now) self.now.interest self.now.instalments benefit widows.now }
-        requires long { length part.old ≡ 121 }
+        requires { WidowsFor (B.figures basis.now) self.now.interest self.now.instalments benefit widows.now }
         ensures { result ≡ final_number (B.figures basis.now) self.now.interest self.now.instalments benefit }
     {
         let Some(level) = benefit.retirement() else {
@@ -66,9 +64,14 @@ impl Rates {
     }
 
     // Puts what an active's benefit pays to invalids into a part of the column.
-    fn fill_invalids<B: Basis>(&self, basis: &B, benefit: Benefit, widows: &[u64], part: &mut [u64])
-        requires widows { WidowsFor (B.figures basis.now) self.now.interest self.now.instalments benefit widows.now }
-        requires long { length part.old ≡ 121 }
+    fn fill_invalids<B: Basis>(
+        &self,
+        basis: &B,
+        benefit: Benefit,
+        widows: &[u64],
+        part: &mut [u64; AGES],
+    )
+        requires { WidowsFor (B.figures basis.now) self.now.interest self.now.instalments benefit widows.now }
         ensures { Invalids (B.figures basis.now) self.now.interest self.now.instalments (turns_to benefit) part.new }
     {
         if let Some(level) = benefit.invalidity() {
@@ -106,10 +109,9 @@ impl Rates {
         basis: &B,
         taken: Taken<'_>,
         widows: &[u64],
-        part: &mut [u64],
+        part: &mut [u64; AGES],
     ) -> (u64, u64)
-        requires widows { WidowsFor (B.figures basis.now) self.now.interest self.now.instalments taken.benefit widows.now }
-        requires long { length part.old ≡ 121 }
+        requires { WidowsFor (B.figures basis.now) self.now.interest self.now.instalments taken.benefit widows.now }
         ensures low { result.0 ≡ running (λ k. stays_on (B.figures basis.now) self.now.interest self.now.instalments (taken.entry.age + k)) (λ k. active_share (B.figures basis.now) self.now.interest self.now.instalments taken.entry.benefit (taken.entry.age + k)) (λ k. weight (slice_index taken.entry.amounts.now k)) (length taken.entry.amounts.now) 0 }
         ensures short { result.1 ≡ slack (λ k. weight (slice_index taken.entry.amounts.now k)) (length taken.entry.amounts.now) 0 }
     {
@@ -136,8 +138,8 @@ impl Rates {
         ensures low { result.0 ≡ low_units (B.figures basis.now) self.now.interest self.now.instalments taken.entry.benefit taken.entry.age taken.entry.amounts.now }
         ensures high { result.0 + result.1 ≡ high_units (B.figures basis.now) self.now.interest self.now.instalments taken.entry.benefit taken.entry.age taken.entry.amounts.now }
     {
-        let (widows, rest) = column.split_at_mut(AGES);
-        let (later, _) = rest.split_at_mut(AGES);
+        let (widows, rest) = column.split_first_chunk_mut::<AGES>().unwrap();
+        let later = rest.first_chunk_mut::<AGES>().unwrap();
         self.fill_widows(basis, taken.benefit, widows);
         match taken.benefit.stream() {
             Some(stream) => self.along_life(basis, stream, taken, Column { widows, later }),

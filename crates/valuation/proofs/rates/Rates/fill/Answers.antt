@@ -10,7 +10,7 @@ loop-age-init g c =
     let i = c.args.self.now.interest in
     let t = c.args.self.now.instalments in
     let stream = c.args.stream in
-    down_none _ c.args.part.now (level_end f i t stream.population (level_share f i t stream.population stream.level) 121 (omega arith)) c.requires.long
+    down_none _ c.args.part.now (level_end f i t stream.population (level_share f i t stream.population stream.level) 121 (omega arith)) (omega arith)
 
 pub overflow_add-later : goal.overflow_add-later
 overflow_add-later g c =
