@@ -96,6 +96,6 @@ word_is line from to begins ends =
     let inside : to ≤ length rest = omega (arith, end, prefix_len-le-length (λ b. not (blank b)) rest) in
     let within : (i : ℕ) → i < to → blank (get_or rest i 0) ≡ false = λ i l. not_blank (blank (get_or rest i 0)) (prefix_len_passes (λ b. not (blank b)) rest i 0 (omega (arith, end))) in
     let stop : to < length rest → blank (get_or rest to 0) ≡ true = λ l.
-        ap (λ n. blank (get_or rest n 0)) end ∙ some_blank (blank (get_or rest (position_or_len blank rest) 0)) (prefix_len_stops (λ b. not (blank b)) rest 0 (omega (arith, end))) in
+    ap (λ n. blank (get_or rest n 0)) end ∙ some_blank (blank (get_or rest (position_or_len blank rest) 0)) (prefix_len_stops (λ b. not (blank b)) rest 0 (omega (arith, end))) in
     let some : 0 < to = ⊎_elim (λ l. l) (λ none. absurd (false≢true (sym (ap (λ x. blank (get_or x 0 0)) here ∙ ap blank (get_or-drop from line 0 0) ∙ ap (λ n. blank (get_or line n 0)) (omega arith) ∙ dark) ∙ ap (λ n. blank (get_or rest n 0)) (omega arith) ∙ stop (omega (arith, ap length here, length-drop from line, found.0))))) (cases_lt 0 to) in
     sym same ∙ ap words (sym here) ∙ first_word rest to some inside within (ends_here rest to stop)

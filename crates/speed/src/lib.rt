@@ -24,12 +24,7 @@ fn benefit_at(place: u32) -> Option<Benefit>
 }
 
 // The lower number of a promise, 0 if it is refused.
-fn lower<B: Basis>(
-    basis: &B,
-    terms: Terms,
-    promise: Promise<'_>,
-    column: &mut [u64],
-) -> u64
+fn lower<B: Basis>(basis: &B, terms: Terms, promise: Promise<'_>, column: &mut [u64]) -> u64
     requires yearly { promise.amounts.now ≡ yearly (B.figures basis.now) promise.benefit promise.age }
     requires long { length column.old ≡ 512 }
     ensures { result ≡ lower_or_none (B.figures basis.now) terms.interest terms.instalments promise.entry.benefit promise.entry.age }
