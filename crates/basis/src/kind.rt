@@ -48,7 +48,7 @@ impl Kind {
         Kind::SpouseAge,
     ];
 
-    // The kind's number in a book, 1 to 7.
+    // The kind's number in a book, 1 to 7: the enum's own order, so that no second table stands beside it.
     pub fn rank(self) -> u8
         ensures { result ≡ rank self }
     {

@@ -58,6 +58,7 @@ pub struct Fault {
 }
 
 impl Refusal {
+    // The enum's own order, so that no second table stands beside it.
     pub fn number(self) -> u8
         ensures { result ≡ (rule self).number }
     {

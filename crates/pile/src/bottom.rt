@@ -1,4 +1,4 @@
-// The two bases that a pile can stand on.
+// The two bases that a pile can stand on: an enum and no `dyn`, since there are these two and a bottom is copied.
 ghost use Rattle.pile.specs.Pile.{bottom_figures};
 ghost use Rattle.pile.specs.Piles.{bottom_lawful};
 

@@ -11,7 +11,7 @@ fn is_digit(byte: u8) -> bool
     byte > 47 && byte < 58
 }
 
-// A whole number of 32 bits in plain decimal digits.
+// A whole number of 32 bits in plain decimal digits. The library's parse takes a leading plus too, which is none.
 pub fn number(word: &[u8]) -> Option<u32>
     ensures { result ≡ number_of word.now }
 {

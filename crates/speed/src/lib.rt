@@ -17,6 +17,7 @@ use valuation::value::value;
 // The most years that a promise can have.
 const YEARS: usize = 121;
 
+// C has no benefits: one is named by its place.
 fn benefit_at(place: u32) -> Option<Benefit>
     ensures { result ≡ benefit_at place }
 {

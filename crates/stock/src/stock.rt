@@ -53,7 +53,7 @@ impl<B: Basis> Stock<B> {
         Ok(())
     }
 
-    // Puts a new promise in a key's place.
+    // Puts a new promise in a key's place: as admit does, but a call of its own, and the place is the key's.
     pub fn amend(&mut self, key: u32, promise: Promise<'_>, column: &mut [u64]) -> Result<(), Fault>
         ensures { Answered B.figures self.old self.new (Amend key (promised promise.entry) (length column.old)) result Silent }
     {

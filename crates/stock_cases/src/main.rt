@@ -89,7 +89,7 @@ enum Foretold {
     Done,
     Cents(Worth),
     Number(u64),
-    // by the number of its refusal
+    // by the number of its refusal, which the input has
     Refused(u32, Place),
 }
 

@@ -1,4 +1,5 @@
-// Writing a table book into the first bytes of a buffer.
+// Writing a table book into the first bytes of a buffer. Each function asks for the room itself: a struct that had the buffer
+// would have to speak of the bytes that it leaves when the loan ends.
 ghost use Rattle.std.specs.Prelude.{◌≡◌, ◌+◌, ◌≤◌, length};
 ghost use Rattle.table.specs.Book.{placed, written, entry_place, body_place, book_length, entry_bytes, contents_bytes, body_bytes, bodies_bytes};
 ghost use Rattle.table.specs.Table.{tabled};
@@ -25,6 +26,8 @@ fn put_entry(buffer: &mut [u8], rows: &Rows, kind: Kind)
     put(buffer, entry_place(kind), &entry);
 }
 
+// Its loop and that of the bodies are no one loop over a function value, whose clause would have to tell of every buffer
+// between.
 fn put_contents(buffer: &mut [u8], rows: &Rows)
     requires { book_length rows.now.final_age ≤ length buffer.old }
     ensures { buffer.new ≡ placed buffer.old 2 (contents_bytes rows.now.final_age) }
@@ -34,6 +37,7 @@ fn put_contents(buffer: &mut [u8], rows: &Rows)
     }
 }
 
+// The loop counts the ages, since each figure is asked for by its age and put at a place that the age tells.
 fn put_body(buffer: &mut [u8], rows: &Rows, kind: Kind)
     requires { book_length rows.now.final_age ≤ length buffer.old }
     ensures { buffer.new ≡ placed buffer.old (body_place rows.now.final_age kind) (body_bytes (tabled rows.now) kind) }

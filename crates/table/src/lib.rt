@@ -67,8 +67,8 @@ impl Table {
         Ok(Table { rows })
     }
 
-    // Writes the book of this basis into the first bytes of a buffer, and says how many they are. A buffer that is
-    // too short is refused and stays as it was.
+    // Writes the book of this basis into the first bytes of a buffer, and says how many they are; the rest is the caller's. A
+    // buffer that is too short is refused and stays as it was.
     pub fn write(&self, buffer: &mut [u8]) -> Result<usize, Fault>
         ensures answer { Outcome result (buffer_fault self.now.rows.final_age buffer.old) (λ n. (n ≡ book_length self.now.rows.final_age) × (buffer.new ≡ written (tabled self.now.rows) buffer.old)) }
         ensures kept { OnErr result (buffer.new ≡ buffer.old) }

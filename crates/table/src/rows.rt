@@ -19,7 +19,8 @@ pub(crate) struct Rows {
 impl Rows {
     ghost use Rattle.table.specs.Table.{row_of, tabled};
 
-    // The rows of the figures that a function tells by kind and age.
+    // The rows of the figures that a function tells by kind and age. The loops are no `map` and no array's `from_fn`: in these
+    // the closures need clauses of their own, which are longer than the loops.
     pub(crate) fn from_fn<F: Fn(Kind, u32) -> u32>(final_age: u32, figure: F) -> Rows
         requires old_enough { 20 ≤ final_age }
         requires young_enough { final_age ≤ 80 }

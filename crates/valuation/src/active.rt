@@ -9,7 +9,7 @@ ghost use Rattle.valuation.specs.declared.stream.Level.TheVariants.{Annuities, W
 use crate::benefit::Benefit;
 use crate::chance::Chance;
 use crate::columns::{Column, value_at};
-use crate::fixed::product;
+use crate::fixed::Part;
 use crate::path::Path;
 use crate::rates::Rates;
 use basis::interface::Basis;
@@ -22,8 +22,8 @@ impl Rates {
         ensures { result ≡ turning_invalid_number (B.figures basis.now) self.now.interest self.now.instalments age }
     {
         let next = value_at(later, age as usize + 1);
-        let pension = product(self.to_next_year(basis, Kind::InvalidDeath, age), next);
-        product(Chance::of(basis, Kind::Invalidity, age).number(), pension)
+        let pension = self.to_next_year(basis, Kind::InvalidDeath, age).of(next);
+        Chance::of(basis, Kind::Invalidity, age).part().of(pension)
     }
 
     // Invalidity in a year: the widow's pension after a later death, or after one in the same year.
@@ -33,15 +33,12 @@ impl Rates {
         ensures { result ≡ turning_invalid_widow_number (B.figures basis.now) self.now.interest self.now.instalments age }
     {
         let next = value_at(column.later, age as usize + 1);
-        let later = product(self.to_next_year(basis, Kind::InvalidDeath, age), next);
-        let same_year = product(
-            Chance::of(basis, Kind::InvalidDeath, age).sooner(),
-            self.left(basis, column.widows, age),
-        );
-        product(
-            Chance::of(basis, Kind::Invalidity, age).number(),
-            later + same_year,
-        )
+        let later = self.to_next_year(basis, Kind::InvalidDeath, age).of(next);
+        let left = self.left(basis, column.widows, age);
+        let same_year = Chance::of(basis, Kind::InvalidDeath, age).sooner().of(left);
+        Chance::of(basis, Kind::Invalidity, age)
+            .part()
+            .of(later + same_year)
     }
 
     // The share of an active below the final age.
@@ -91,7 +88,7 @@ impl<B: Basis> Path<B> for ActivePath {
 
     ghost shares = { λ p b k. active_share (B.Basis.figures b) p.rates.interest p.rates.instalments p.benefit (p.age + k) };
 
-    fn survival(&self, basis: &B, year: u32) -> u64 {
+    fn survival(&self, basis: &B, year: u32) -> Part {
         self.rates.stays_on(basis, self.age + year)
     }
 

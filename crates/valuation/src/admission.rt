@@ -37,7 +37,7 @@ pub fn check_promise<B: Basis>(basis: &B, promise: Promise<'_>, column: &[u64]) 
     Ok(())
 }
 
-// The first amount above the limit.
+// The first amount above the limit, by its index.
 fn check_amounts(amounts: &[u32]) -> Result<(), Fault>
     requires { length amounts.now ≤ 121 }
     ensures { Outcome result (amounts_fault amounts.now) (λ _. Unit {0}) }

@@ -88,7 +88,7 @@ impl Benefit {
         }
     }
 
-    // The benefit of a name, if the name is one.
+    // The benefit of a name, if the name is one: an Option and no `FromStr`, since no refusal stands for another name.
     pub fn from_name(text: &str) -> Option<Benefit>
         ensures { MatchOption result ((b : Kinds) → name b ≢ text.now) (λ b. name b ≡ text.now) }
     {

@@ -1,10 +1,9 @@
 // A yearly chance, and the fixed-point numbers of what it says of a year.
 ghost use Rattle.std.specs.Prelude.{◌≡◌, ◌≤◌};
-ghost use Rattle.valuation.specs.Fixed.{scale};
 ghost use Rattle.valuation.specs.Pair.{half_number, sooner_number};
 ghost use Rattle.valuation.specs.Rates.{chance_number, lives_number};
 
-use crate::fixed::fixed;
+use crate::fixed::Part;
 use basis::interface::Basis;
 use basis::kind::{CERTAIN, Kind};
 
@@ -25,41 +24,37 @@ impl Chance {
     }
 
     // q
-    pub(crate) fn number(self) -> u64
-        ensures value { result ≡ chance_number self.millionths }
-        ensures below { result ≤ scale }
+    pub(crate) fn part(self) -> Part
+        ensures { result.number ≡ chance_number self.millionths }
     {
-        fixed(self.millionths as u64, CERTAIN as u64)
+        Part::new(self.millionths as u64, CERTAIN as u64)
     }
 
     // 1 − q
-    pub(crate) fn opposite(self) -> u64
-        ensures value { result ≡ lives_number self.millionths }
-        ensures below { result ≤ scale }
+    pub(crate) fn opposite(self) -> Part
+        ensures { result.number ≡ lives_number self.millionths }
     {
-        fixed((CERTAIN - self.millionths) as u64, CERTAIN as u64)
+        Part::new((CERTAIN - self.millionths) as u64, CERTAIN as u64)
     }
 
-    // The part of those alive at mid-year that lives to the year's end.
-    pub(crate) fn half(self) -> u64
-        ensures value { result ≡ half_number self.millionths }
-        ensures below { result ≤ scale }
+    // Of those alive at mid-year, the part that lives to the year's end.
+    pub(crate) fn half(self) -> Part
+        ensures { result.number ≡ half_number self.millionths }
     {
         if self.millionths == CERTAIN {
-            return 0;
+            return Part { number: 0 };
         }
-        fixed(
+        Part::new(
             2 * (CERTAIN - self.millionths) as u64,
             (2 * CERTAIN - self.millionths) as u64,
         )
     }
 
-    // The part that dies before it.
-    pub(crate) fn sooner(self) -> u64
-        ensures value { result ≡ sooner_number self.millionths }
-        ensures below { result ≤ scale }
+    // And the part that dies before it.
+    pub(crate) fn sooner(self) -> Part
+        ensures { result.number ≡ sooner_number self.millionths }
     {
-        fixed(
+        Part::new(
             self.millionths as u64,
             (2 * CERTAIN - self.millionths) as u64,
         )

@@ -5,7 +5,7 @@ ghost use Rattle.valuation.specs.Columns.{Filled, Reads, WidowsFilled, level_of,
 ghost use Rattle.valuation.specs.Pair.{left_number, wid_number, widowed_number};
 
 use crate::chance::Chance;
-use crate::fixed::{SCALE, product};
+use crate::fixed::SCALE;
 use crate::rates::Rates;
 use crate::stream::{Level, Stream};
 use basis::interface::Basis;
@@ -28,16 +28,15 @@ pub(crate) fn value_at(part: &[u64], age: usize) -> u64
     part.get(age).copied().unwrap_or(0)
 }
 
+// The basis and the parts are lent to each call, as the one sum lends them, and what a part holds is asked for by one word.
 impl Rates {
     // The widow's pension that a death leaves, for a widow aged y.
     fn wid<B: Basis>(&self, basis: &B, widows: &[u64], y: u32) -> u64
         requires { WidowsFilled (B.figures basis.now) self.now.interest self.now.instalments widows.now }
         ensures { result ≡ wid_number (B.figures basis.now) self.now.interest self.now.instalments y }
     {
-        product(
-            self.to_next_year(basis, Kind::WidowDeath, y),
-            value_at(widows, y as usize + 1),
-        )
+        let next = value_at(widows, y as usize + 1);
+        self.to_next_year(basis, Kind::WidowDeath, y).of(next)
     }
 
     // The same for whoever dies at an age, married or not.
@@ -45,10 +44,8 @@ impl Rates {
         requires { WidowsFilled (B.figures basis.now) self.now.interest self.now.instalments widows.now }
         ensures { result ≡ left_number (B.figures basis.now) self.now.interest self.now.instalments age }
     {
-        product(
-            Chance::of(basis, Kind::Married, age).number(),
-            self.wid(basis, widows, basis.figure(Kind::SpouseAge, age)),
-        )
+        let wid = self.wid(basis, widows, basis.figure(Kind::SpouseAge, age));
+        Chance::of(basis, Kind::Married, age).part().of(wid)
     }
 
     // The share of a population's deaths at an age.
@@ -56,10 +53,8 @@ impl Rates {
         requires { WidowsFilled (B.figures basis.now) self.now.interest self.now.instalments widows.now }
         ensures { result ≡ widowed_number (B.figures basis.now) self.now.interest self.now.instalments kind age }
     {
-        product(
-            Chance::of(basis, kind, age).number(),
-            self.left(basis, widows, age),
-        )
+        let left = self.left(basis, widows, age);
+        Chance::of(basis, kind, age).part().of(left)
     }
 
     // The yearly share of a stream of amount 1 a year.
@@ -96,7 +91,7 @@ impl Rates {
         for age in (0..AGES).rev() {
             let share = self.level_share(basis, widows, stream, age as u32);
             let goes_on = self.goes_on(basis, stream.population, age as u32);
-            later = share + product(goes_on, later);
+            later = share + goes_on.of(later);
             part[age] = later;
         }
     }

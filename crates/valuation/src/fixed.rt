@@ -28,3 +28,40 @@ pub(crate) fn product(a: u64, b: u64) -> u64
 {
     (a as u128 * b as u128 / SCALE as u128) as u64
 }
+
+// A number of at most 1, as a chance or a discount is.
+#[derive(Clone, Copy)]
+pub(crate) struct Part {
+    pub(crate) number: u64,
+    ghost below: { number ≤ scale },
+}
+
+impl Part {
+    // n/d
+    pub(crate) fn new(n: u64, d: u64) -> Part
+        requires some { 0 < d }
+        requires most { n ≤ d }
+        ensures { result.number ≡ fixed n d }
+    {
+        Part {
+            number: fixed(n, d),
+        }
+    }
+
+    // This part of an amount.
+    pub(crate) fn of(self, amount: u64) -> u64
+        ensures value { result ≡ product self.number amount }
+        ensures below { result ≤ amount }
+    {
+        product(self.number, amount)
+    }
+
+    // This part of a part.
+    pub(crate) fn of_part(self, other: Part) -> Part
+        ensures { result.number ≡ product self.number other.number }
+    {
+        Part {
+            number: self.of(other.number),
+        }
+    }
+}

@@ -4,6 +4,7 @@ ghost use Rattle.valuation.specs.Columns.{Reads, level_share};
 ghost use Rattle.valuation.specs.Pair.{goes_on};
 
 use crate::columns::Column;
+use crate::fixed::Part;
 use crate::path::Path;
 use crate::rates::Rates;
 use crate::stream::Stream;
@@ -25,7 +26,7 @@ impl<B: Basis> Path<B> for LifePath {
 
     ghost shares = { λ p b k. level_share (B.Basis.figures b) p.rates.interest p.rates.instalments p.stream.population p.stream.level (p.age + k) };
 
-    fn survival(&self, basis: &B, year: u32) -> u64 {
+    fn survival(&self, basis: &B, year: u32) -> Part {
         self.rates
             .goes_on(basis, self.stream.population, self.age + year)
     }

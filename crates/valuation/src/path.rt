@@ -4,7 +4,7 @@ ghost use Rattle.valuation.specs.Fixed.{scale};
 ghost use Rattle.valuation.specs.Pair.{running, slack, weight};
 
 use crate::columns::Column;
-use crate::fixed::{SCALE, product};
+use crate::fixed::{Part, SCALE, product};
 use basis::interface::Basis;
 
 // A path as a valuation runs along it: for each year the discounted chance to be on it a year on, and the year's share.
@@ -16,10 +16,9 @@ pub(crate) trait Path<B: Basis> {
 
     ghost shares: { Self → B → ℕ → ℕ };
 
-    fn survival(&self, basis: &B, year: u32) -> u64
+    fn survival(&self, basis: &B, year: u32) -> Part
         requires { year ≤ 121 }
-        ensures value { result ≡ survivals self.now basis.now year }
-        ensures below { result ≤ scale };
+        ensures { result.number ≡ survivals self.now basis.now year };
 
     fn share(&self, basis: &B, column: Column<'_>, year: u32) -> u64
         requires ready { ready self.now basis.now column.widows.now column.later.now }
@@ -46,7 +45,7 @@ pub(crate) fn run<B: Basis, P: Path<B>>(
     for (k, amount) in amounts.iter().enumerate().rev() {
         let weight = *amount as u64 * 104_857_600;
         let now = product(weight, path.share(basis, column, k as u32));
-        low = now + product(path.survival(basis, k as u32), low);
+        low = now + path.survival(basis, k as u32).of(low);
         short += (weight as u128 * 8_388_608 / SCALE as u128) as u64 + 4;
     }
     (low, short)

@@ -1,11 +1,10 @@
 // What a valuation takes from its terms and from the figures of one year, in fixed-point numbers.
 ghost use Rattle.std.specs.Prelude.{◌≡◌, ◌<◌, ◌≤◌};
-ghost use Rattle.valuation.specs.Fixed.{scale};
 ghost use Rattle.valuation.specs.Pair.{goes_on, pension_number, stays_on, to_next_year};
 ghost use Rattle.valuation.specs.Rates.{discount_number, kept_number, loss_number, paid_number};
 
 use crate::chance::Chance;
-use crate::fixed::{fixed, product};
+use crate::fixed::{Part, fixed};
 use crate::terms::Terms;
 use basis::interface::Basis;
 use basis::kind::{CERTAIN, Kind};
@@ -15,26 +14,23 @@ use basis::kind::{CERTAIN, Kind};
 pub(crate) struct Rates {
     pub(crate) interest: u32,
     pub(crate) instalments: u32,
-    pub(crate) discount: u64,
-    pub(crate) loss: u64,
-    pub(crate) kept: u64,
-    ghost discounted: { discount ≡ discount_number interest },
-    ghost lost: { loss ≡ loss_number interest instalments },
-    ghost rest: { kept ≡ kept_number interest instalments },
+    pub(crate) discount: Part,
+    pub(crate) loss: Part,
+    pub(crate) kept: Part,
+    ghost discounted: { discount.number ≡ discount_number interest },
+    ghost lost: { loss.number ≡ loss_number interest instalments },
+    ghost rest: { kept.number ≡ kept_number interest instalments },
     ghost some: { 0 < instalments },
     ghost few: { instalments ≤ 12 },
-    ghost discount_most: { discount ≤ scale },
-    ghost loss_most: { loss ≤ scale },
-    ghost kept_most: { kept ≤ scale },
 }
 
-// K and 1 − K of t instalments.
-fn parts_of_year(interest: u64, t: u64) -> (u64, u64)
+// K and 1 − K of t instalments, each the sum of its parts of the year.
+fn parts_of_year(interest: u64, t: u64) -> (Part, Part)
     requires modest { interest ≤ 2000 }
     requires some { 0 < t }
     requires few { t ≤ 12 }
-    ensures loss { result.0 ≡ loss_number interest t }
-    ensures kept { result.1 ≡ kept_number interest t }
+    ensures loss { result.0.number ≡ loss_number interest t }
+    ensures kept { result.1.number ≡ kept_number interest t }
 {
     let mut loss = 0;
     let mut rest = 0;
@@ -43,7 +39,7 @@ fn parts_of_year(interest: u64, t: u64) -> (u64, u64)
         loss += fixed(m * (10000 + interest), whole);
         rest += fixed(10000 * (t - m), whole);
     }
-    (loss, rest)
+    (Part { number: loss }, Part { number: rest })
 }
 
 impl From<Terms> for Rates {
@@ -55,7 +51,7 @@ impl From<Terms> for Rates {
         Rates {
             interest: terms.interest,
             instalments: terms.instalments,
-            discount: fixed(10000, 10000 + interest),
+            discount: Part::new(10000, 10000 + interest),
             loss,
             kept,
         }
@@ -64,29 +60,28 @@ impl From<Terms> for Rates {
 
 impl Rates {
     // The discounted chance of a life to go on for another year: v·p.
-    pub(crate) fn goes_on<B: Basis>(&self, basis: &B, kind: Kind, age: u32) -> u64
-        ensures below { result ≤ scale }
-        ensures value { result ≡ goes_on (B.figures basis.now) self.now.interest self.now.instalments kind age }
+    pub(crate) fn goes_on<B: Basis>(&self, basis: &B, kind: Kind, age: u32) -> Part
+        ensures { result.number ≡ goes_on (B.figures basis.now) self.now.interest self.now.instalments kind age }
     {
-        product(self.discount, Chance::of(basis, kind, age).opposite())
+        self.discount
+            .of_part(Chance::of(basis, kind, age).opposite())
     }
 
     // The discounted chance of an active to be one for another year.
-    pub(crate) fn stays_on<B: Basis>(&self, basis: &B, age: u32) -> u64
-        ensures below { result ≤ scale }
-        ensures value { result ≡ stays_on (B.figures basis.now) self.now.interest self.now.instalments age }
+    pub(crate) fn stays_on<B: Basis>(&self, basis: &B, age: u32) -> Part
+        ensures { result.number ≡ stays_on (B.figures basis.now) self.now.interest self.now.instalments age }
     {
         let able = CERTAIN - basis.figure(Kind::Invalidity, age);
         let staying = able - basis.figure(Kind::ActiveDeath, age);
-        product(self.discount, fixed(staying as u64, CERTAIN as u64))
+        self.discount
+            .of_part(Part::new(staying as u64, CERTAIN as u64))
     }
 
     // T, for one whose discounted chance to draw the pension for another year is given.
-    pub(crate) fn paid(&self, survival: u64) -> u64
-        requires { survival ≤ scale }
-        ensures { result ≡ paid_number (kept_number self.now.interest self.now.instalments) (loss_number self.now.interest self.now.instalments) survival }
+    pub(crate) fn paid(&self, survival: Part) -> u64
+        ensures { result ≡ paid_number (kept_number self.now.interest self.now.instalments) (loss_number self.now.interest self.now.instalments) survival.number }
     {
-        self.kept + product(self.loss, survival)
+        self.kept.number + self.loss.of(survival.number)
     }
 
     // A year's pension of a population at an age.
@@ -97,10 +92,9 @@ impl Rates {
     }
 
     // The discounted chance to live from mid-year to the year's end: v·half.
-    pub(crate) fn to_next_year<B: Basis>(&self, basis: &B, kind: Kind, age: u32) -> u64
-        ensures below { result ≤ scale }
-        ensures value { result ≡ to_next_year (B.figures basis.now) self.now.interest self.now.instalments kind age }
+    pub(crate) fn to_next_year<B: Basis>(&self, basis: &B, kind: Kind, age: u32) -> Part
+        ensures { result.number ≡ to_next_year (B.figures basis.now) self.now.interest self.now.instalments kind age }
     {
-        product(self.discount, Chance::of(basis, kind, age).half())
+        self.discount.of_part(Chance::of(basis, kind, age).half())
     }
 }

@@ -17,6 +17,6 @@ loop-k-preserved g c =
     let steps = c.in-Some.ensures.steps in
     let k = steps.1.1 ∙ ap (λ n. n + length c.next.new.self.iter.iter.rest.now) c.loop-k.invariant.0 ∙ zero-add _ in (
       steps.0 ∙ c.loop-k.invariant.0,
-      ahead_year s l c.args.amounts.now _ _ c.in-Some.k c.in-Some.amount.now c.loop-k.low c.loop-k.short c.share.result c.survival.result c.product-now.result c.product.result
-          steps.1.0 k c.requires.modest c.share.ensures.value c.survival.ensures.value c.share.ensures.modest c.survival.ensures.below c.product-now.ensures.value c.product.ensures.value c.loop-k.invariant.1,
+      ahead_year s l c.args.amounts.now _ _ c.in-Some.k c.in-Some.amount.now c.loop-k.low c.loop-k.short c.share.result c.survival.result.number c.product-now.result c.of.result
+          steps.1.0 k c.requires.modest c.share.ensures.value c.survival.ensures c.share.ensures.modest c.survival.result.below c.product-now.ensures.value c.of.ensures.value c.loop-k.invariant.1,
     )

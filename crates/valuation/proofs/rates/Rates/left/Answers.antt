@@ -9,5 +9,5 @@ pub returns : goal.returns
 unfolding left_number
 returns g c =
     let f = g.B.Basis.figures c.args.basis.now in
-    same_product c.product.result c.number.result c.wid.result (chance_number (f.figure Married c.args.age)) (wid_number f c.args.self.now.interest c.args.self.now.instalments (f.figure SpouseAge c.args.age)) _ c.product.ensures.value (◌∙◌ {b = chance_number c.of.result.millionths} c.number.ensures.value (ap chance_number c.of.ensures))
-    (◌∙◌ {b = wid_number f c.args.self.now.interest c.args.self.now.instalments c.figure.result} c.wid.ensures (ap (wid_number f c.args.self.now.interest c.args.self.now.instalments) c.figure.ensures)) refl
+    same_product c.of-2.result c.part.result.number c.wid-wid.result (chance_number (f.figure Married c.args.age)) (wid_number f c.args.self.now.interest c.args.self.now.instalments (f.figure SpouseAge c.args.age)) _ c.of-2.ensures.value (◌∙◌ {b = chance_number c.of.result.millionths} c.part.ensures (ap chance_number c.of.ensures))
+    (◌∙◌ {b = wid_number f c.args.self.now.interest c.args.self.now.instalments c.figure.result} c.wid-wid.ensures (ap (wid_number f c.args.self.now.interest c.args.self.now.instalments) c.figure.ensures)) refl

@@ -7,4 +7,4 @@ pub returns : goal.returns
 unfolding pension_number
 returns g c =
     let rates = c.args.self.now in
-    c.paid.ensures ∙ ap (paid_number (kept_number rates.interest rates.instalments) (loss_number rates.interest rates.instalments)) c.goes_on.ensures.value
+    ◌∙◌ {b = paid_number (kept_number rates.interest rates.instalments) (loss_number rates.interest rates.instalments) c.goes_on.result.number} c.paid.ensures (ap (paid_number (kept_number rates.interest rates.instalments) (loss_number rates.interest rates.instalments)) c.goes_on.ensures)

@@ -15,5 +15,5 @@ returns g c =
     let t = c.args.self.now.instalments in
     let x = c.args.age in
     let next = c.value_at-next.ensures (annuity_number f i t InvalidDeath) c.requires (level_end f i t InvalidDeath (λ y. scale)) in
-    let pension = same_product c.product-pension.result _ _ (to_next_year f i t InvalidDeath x) (annuity_number f i t InvalidDeath (x + 1)) _ c.product-pension.ensures.value c.to_next_year.ensures.value next refl in
-    same_product c.product.result _ _ (chance_number (f.figure Invalidity x)) _ _ c.product.ensures.value (◌∙◌ {b = chance_number c.of.result.millionths} c.number.ensures.value (ap chance_number c.of.ensures)) pension refl
+    let pension = same_product c.of-pension.result _ _ (to_next_year f i t InvalidDeath x) (annuity_number f i t InvalidDeath (x + 1)) _ c.of-pension.ensures.value c.to_next_year.ensures next refl in
+    same_product c.of-2.result _ _ (chance_number (f.figure Invalidity x)) _ _ c.of-2.ensures.value (◌∙◌ {b = chance_number c.of.result.millionths} c.part.ensures (ap chance_number c.of.ensures)) pension refl

@@ -18,10 +18,10 @@ overflow_add-later g c =
     let next = c.value_at-next.ensures (level_of f rates.interest rates.instalments InvalidDeath Widows) c.requires.later (level_end f rates.interest rates.instalments InvalidDeath (level_share f rates.interest rates.instalments InvalidDeath Widows)) in
     omega (
       arith,
-      c.product-later.ensures.below,
-      c.product-same_year.ensures.below,
+      c.of-later.ensures.below,
+      c.of-same_year.ensures.below,
       next,
-      c.left.ensures,
+      c.left-left.ensures,
       levels_bound f lawful rates.interest rates.instalments rates.some rates.few InvalidDeath Widows (c.args.age + 1),
       left_bound f lawful rates.interest rates.instalments rates.some rates.few c.args.age,
     )
@@ -34,7 +34,7 @@ returns g c =
     let t = c.args.self.now.instalments in
     let x = c.args.age in
     let next = c.value_at-next.ensures (level_of f i t InvalidDeath Widows) c.requires.later (level_end f i t InvalidDeath (level_share f i t InvalidDeath Widows)) in
-    let later = same_product c.product-later.result _ _ (to_next_year f i t InvalidDeath x) (level_of f i t InvalidDeath Widows (x + 1)) _ c.product-later.ensures.value c.to_next_year.ensures.value next refl in
-    let same-year = same_product c.product-same_year.result _ _ (sooner_number (f.figure InvalidDeath x)) (left_number f i t x) _ c.product-same_year.ensures.value (◌∙◌ {b = sooner_number c.of.result.millionths} c.sooner.ensures.value (ap sooner_number c.of.ensures)) c.left.ensures refl in
-    same_product c.product.result _ _ (chance_number (f.figure Invalidity x)) _ _ c.product.ensures.value (◌∙◌ {b = chance_number c.of-2.result.millionths} c.number.ensures.value (ap chance_number c.of-2.ensures))
-    (ap (λ n. n + c.product-same_year.result) later ∙ ap (λ n. product (to_next_year f i t InvalidDeath x) (level_of f i t InvalidDeath Widows (x + 1)) + n) same-year) refl
+    let later = same_product c.of-later.result _ _ (to_next_year f i t InvalidDeath x) (level_of f i t InvalidDeath Widows (x + 1)) _ c.of-later.ensures.value c.to_next_year.ensures next refl in
+    let same-year = same_product c.of-same_year.result _ _ (sooner_number (f.figure InvalidDeath x)) (left_number f i t x) _ c.of-same_year.ensures.value (◌∙◌ {b = sooner_number c.of.result.millionths} c.sooner.ensures (ap sooner_number c.of.ensures)) c.left-left.ensures refl in
+    same_product c.of-3.result _ _ (chance_number (f.figure Invalidity x)) _ _ c.of-3.ensures.value (◌∙◌ {b = chance_number c.of-2.result.millionths} c.part.ensures (ap chance_number c.of-2.ensures))
+    (ap (λ n. n + c.of-same_year.result) later ∙ ap (λ n. product (to_next_year f i t InvalidDeath x) (level_of f i t InvalidDeath Widows (x + 1)) + n) same-year) refl

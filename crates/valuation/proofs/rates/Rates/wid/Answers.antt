@@ -13,5 +13,5 @@ returns g c =
     let i = c.args.self.now.interest in
     let t = c.args.self.now.instalments in
     let y = c.args.y in
-    same_product c.product.result _ _ (to_next_year f i t WidowDeath y) (annuity_number f i t WidowDeath (y + 1)) _ c.product.ensures.value c.to_next_year.ensures.value
-    (c.value_at.ensures (annuity_number f i t WidowDeath) c.requires (level_end f i t WidowDeath (λ x. scale))) refl
+    same_product c.of.result _ _ (to_next_year f i t WidowDeath y) (annuity_number f i t WidowDeath (y + 1)) _ c.of.ensures.value c.to_next_year.ensures
+    (c.value_at-next.ensures (annuity_number f i t WidowDeath) c.requires (level_end f i t WidowDeath (λ x. scale))) refl

@@ -8,4 +8,4 @@ pub returns : goal.returns
 unfolding widowed_number
 returns g c =
     let f = g.B.Basis.figures c.args.basis.now in
-    same_product c.product.result c.number.result c.left.result (chance_number (f.figure c.args.kind c.args.age)) (left_number f c.args.self.now.interest c.args.self.now.instalments c.args.age) _ c.product.ensures.value (◌∙◌ {b = chance_number c.of.result.millionths} c.number.ensures.value (ap chance_number c.of.ensures)) c.left.ensures refl
+    same_product c.of-2.result c.part.result.number c.left-left.result (chance_number (f.figure c.args.kind c.args.age)) (left_number f c.args.self.now.interest c.args.self.now.instalments c.args.age) _ c.of-2.ensures.value (◌∙◌ {b = chance_number c.of.result.millionths} c.part.ensures (ap chance_number c.of.ensures)) c.left-left.ensures refl
