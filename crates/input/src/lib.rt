@@ -31,7 +31,8 @@ impl FromStr for Repeated {
 }
 
 impl Repeated {
-    // Appends the amount as often as it stands for.
+    // Appends the amount once for each of its years. Where there is no memory for them, the amounts stay as they were. The
+    // sum fits, since no `Vec` of numbers comes near the end of `usize`.
     pub fn push_onto(self, amounts: &mut Vec<u32>) -> Result<(), AllocError>
         ensures ok { OnOk result (amounts.new.items ≡ amounts.old.items ++ replicate self.times self.amount) }
         ensures err { OnErr result (amounts.new.items ≡ amounts.old.items) }
