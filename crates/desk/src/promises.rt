@@ -3,6 +3,7 @@ use crate::Task;
 use anyhow::Context;
 use basis::interface::Basis;
 use fault::Fault;
+use input::Repeated;
 use std::str::SplitWhitespace;
 use std::{fmt, io};
 use stock::call::Answer;
@@ -16,10 +17,7 @@ use valuation::value::value;
 fn read_amounts(rt: &HostRuntime, words: SplitWhitespace<'_>) -> anyhow::Result<Vec<u32>> {
     let mut amounts = Vec::new(rt.alloc());
     for word in words {
-        let (times, amount) = word.split_once('*').unwrap_or(("1", word));
-        let amount = amount.parse::<u32>()?;
-        let length = amounts.len().saturating_add(times.parse::<u16>()? as usize);
-        amounts.resize(length, amount)?;
+        word.parse::<Repeated>()?.push_onto(&mut amounts)?;
     }
     Ok(amounts)
 }

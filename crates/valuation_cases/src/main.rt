@@ -6,6 +6,7 @@ use basis::loading::Loading;
 use basis::shift::Shift;
 use basis::straight_line::StraightLine;
 use fault::{Fault, Place};
+use input::Repeated;
 use pile::Pile;
 use pile::bottom::Bottom;
 use pile::layer::Layer;
@@ -103,10 +104,7 @@ fn read_question(words: &mut SplitWhitespace<'_>) -> anyhow::Result<Question> {
 fn read_amounts(rt: &HostRuntime, words: &mut SplitWhitespace<'_>) -> anyhow::Result<Vec<u32>> {
     let mut amounts = Vec::new(rt.alloc());
     for word in words {
-        let (times, amount) = word.split_once('*').unwrap_or(("1", word));
-        let amount = amount.parse::<u32>()?;
-        let length = amounts.len().saturating_add(times.parse::<u16>()? as usize);
-        amounts.resize(length, amount)?;
+        word.parse::<Repeated>()?.push_onto(&mut amounts)?;
     }
     Ok(amounts)
 }
