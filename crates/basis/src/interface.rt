@@ -13,7 +13,8 @@ pub trait Basis {
     fn final_age(&self) -> u32
         ensures { result ≡ (figures self.now).final_age };
 
-    // The list's figure at an age, 0 at an age that the list has not.
+    // The list's figure at an age, 0 at an age that the list has not. The question is two words and no record, since every
+    // figure would take it apart at once.
     fn figure(&self, kind: Kind, age: u32) -> u32
         ensures { result ≡ (figures self.now).figure kind age };
 

@@ -35,7 +35,7 @@ impl Loading {
         Ok(Loading { thousandths })
     }
 
-    // A chance times the factor, whole part, at most the given chance.
+    // A chance times the factor, whole part, at most the given chance: the two are no record, being the sides of one minimum.
     pub fn raised(self, chance: u32, most: u32) -> u32
         ensures { result ≡ raised self.thousandths chance most }
     {

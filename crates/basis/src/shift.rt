@@ -33,7 +33,7 @@ impl Shift {
         Ok(Shift { years })
     }
 
-    // The age at which a list of the basis below is read.
+    // The age at which a list of the basis below is read: an arm for each range that a list's ages are brought into.
     pub fn read_age(self, final_age: u32, kind: Kind, age: u32) -> u32
         ensures { result ≡ read_age final_age self.years kind age }
     {

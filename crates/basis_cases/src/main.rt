@@ -170,6 +170,7 @@ fn piles(rt: &HostRuntime, words: &mut SplitWhitespace<'_>) -> anyhow::Result<()
     layers(rt, Table::new(), shift, loading)
 }
 
+// An arm for each case of the input.
 fn answer_line(rt: &HostRuntime, text: &str) -> anyhow::Result<()> {
     let mut words = text.split_whitespace();
     match words.next() {

@@ -13,7 +13,7 @@ use valuation::promise::Promise;
 use valuation::terms::Terms;
 use valuation::value::value;
 
-// Yearly amounts, each word `A`, or `N*A` for N times A.
+// Yearly amounts, each word `A`, or `N*A` for N times A: each program that reads some has this loop under its own error.
 fn read_amounts(rt: &HostRuntime, words: SplitWhitespace<'_>) -> anyhow::Result<Vec<u32>> {
     let mut amounts = Vec::new(rt.alloc());
     for word in words {
@@ -33,6 +33,7 @@ struct Asked {
 }
 
 impl Asked {
+    // Lends its own fields, which no other record has.
     fn promise(&self) -> Promise<'_> {
         Promise {
             benefit: self.benefit,

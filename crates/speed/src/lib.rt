@@ -24,7 +24,7 @@ fn benefit_at(place: u32) -> Option<Benefit>
     Benefit::ALL.get(place as usize).copied()
 }
 
-// The lower number of a promise, 0 if it is refused.
+// The lower number of a promise, 0 if it is refused, since C has no Option.
 fn lower<B: Basis>(basis: &B, terms: Terms, promise: Promise<'_>, column: &mut [u64]) -> u64
     requires yearly { promise.amounts.now ≡ yearly (B.figures basis.now) promise.benefit promise.age }
     requires long { length column.old ≡ 512 }

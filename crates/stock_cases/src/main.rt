@@ -123,7 +123,7 @@ struct Report {
     tallies: [Tally; 6],
 }
 
-// The next word as a number.
+// The next word as a number, with a message of the program's own.
 fn number(words: &mut SplitWhitespace<'_>) -> anyhow::Result<u64> {
     Ok(words.next().context("a number is missing")?.parse::<u64>()?)
 }
@@ -132,7 +132,7 @@ fn small_number(words: &mut SplitWhitespace<'_>) -> anyhow::Result<u32> {
     Ok(u32::try_from(number(words)?)?)
 }
 
-// Yearly amounts, each word `A`, or `N*A` for N times A.
+// Yearly amounts, each word `A`, or `N*A` for N times A, under this program's error.
 fn read_amounts(rt: &HostRuntime, words: &mut SplitWhitespace<'_>) -> anyhow::Result<Vec<u32>> {
     let mut amounts = Vec::new(rt.alloc());
     for word in words {
@@ -205,6 +205,7 @@ fn read_row(rt: &HostRuntime, line: u32, text: &str) -> anyhow::Result<Row> {
 }
 
 impl Handed {
+    // Lends its own fields, which no other record has.
     fn promise(&self) -> Promise<'_> {
         Promise {
             benefit: self.benefit,

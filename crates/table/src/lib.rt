@@ -44,7 +44,7 @@ impl Table {
     {
         let start = StraightLine::new(65, 0).unwrap();
         Table {
-            rows: Rows::of(&start),
+            rows: Rows::from(&start),
         }
     }
 
@@ -57,6 +57,7 @@ impl Table {
         Ok(())
     }
 
+    // A step of the calls, and no `TryFrom`: a book is taken by `read`, which keeps the basis if it is refused.
     fn from_book(book: &[u8]) -> Result<Table, Fault>
         ensures { Outcome result (book_fault book.now) (λ t. tabled t.rows ≡ decoded book.now) }
     {
@@ -81,7 +82,7 @@ impl Table {
         Ok(length)
     }
 
-    // Reads a book and writes it out again: the same bytes.
+    // Reads a book and writes it out again: the same bytes. Each call that has a buffer says of itself that a refusal keeps it.
     pub fn rewrite(book: &[u8], buffer: &mut [u8]) -> Result<usize, Fault>
         ensures answer { Outcome result (rewrite_fault book.now buffer.old) (λ n. (n ≡ length book.now) × (buffer.new ≡ book.now ++ drop n buffer.old)) }
         ensures kept { OnErr result (buffer.new ≡ buffer.old) }

@@ -39,13 +39,6 @@ impl Rows {
         Rows { final_age, lists }
     }
 
-    // The figures of any basis.
-    pub(crate) fn of<B: Basis>(basis: &B) -> Rows
-        ensures { tabled result ≡ B.figures basis.now }
-    {
-        Rows::from_fn(basis.final_age(), |kind, age| basis.figure(kind, age))
-    }
-
     // The list's figure at an age, 0 at an age that the list has not.
     pub(crate) fn figure(&self, kind: Kind, age: u32) -> u32
         ensures { result ≡ (tabled self.now).figure kind age }
@@ -54,5 +47,16 @@ impl Rows {
             return 0;
         }
         self.lists[kind as usize][age as usize]
+    }
+}
+
+// The figures of any basis.
+impl<B: Basis> From<&B> for Rows {
+    ghost use Rattle.table.specs.Table.{tabled};
+
+    ghost from_gives = { λ basis rows. tabled rows ≡ B.Basis.figures basis.now };
+
+    fn from(basis: &B) -> Rows {
+        Rows::from_fn(basis.final_age(), |kind, age| basis.figure(kind, age))
     }
 }

@@ -14,7 +14,7 @@ pub(crate) struct Chance {
 }
 
 impl Chance {
-    // The chance that a basis has in a list at an age.
+    // The chance that a basis has in a list at an age, asked for by these three and so by no `From`.
     pub(crate) fn of<B: Basis>(basis: &B, kind: Kind, age: u32) -> Chance
         ensures { result.millionths ≡ (B.figures basis.now).figure kind age }
     {

@@ -45,7 +45,7 @@ struct Report {
     refused: u32,
 }
 
-// The next word as a number.
+// The next word as a number, with a message of the program's own.
 fn number(words: &mut SplitWhitespace<'_>) -> anyhow::Result<u64> {
     Ok(words.next().context("a number is missing")?.parse::<u64>()?)
 }
@@ -100,7 +100,7 @@ fn read_question(words: &mut SplitWhitespace<'_>) -> anyhow::Result<Question> {
     })
 }
 
-// Yearly amounts, each word `A`, or `N*A` for N times A.
+// Yearly amounts, each word `A`, or `N*A` for N times A, under this program's error.
 fn read_amounts(rt: &HostRuntime, words: &mut SplitWhitespace<'_>) -> anyhow::Result<Vec<u32>> {
     let mut amounts = Vec::new(rt.alloc());
     for word in words {
@@ -168,7 +168,7 @@ impl Report {
         Ok(())
     }
 
-    // A row that has to be refused, with the number and the place of its fault.
+    // A row that has to be refused, with the place of its fault and the refusal's number, which the input has.
     fn hold_fault(
         &mut self,
         rt: &HostRuntime,

@@ -7,6 +7,6 @@ use Rattle.table.proofs.Table.new.Goals as goal
 pub invariant_of-result : goal.invariant_of-result
 invariant_of-result c =
     let start = c.unwrap-start.result in
-    let lawful : Lawful (tabled c.of.result) =
-    subst Lawful (sym c.of.ensures) (straight_line_lawful start.final_age start.invalidity start.old_enough start.young_enough start.modest) in
+    let lawful : Lawful (tabled c.from.result) =
+    subst Lawful (sym c.from.ensures) (straight_line_lawful start.final_age start.invalidity start.old_enough start.young_enough start.modest) in
     record { aged = lawful.aged; limited = lawful.limited; exits = lawful.exits; seamless = lawful.seamless; closed = lawful.closed }

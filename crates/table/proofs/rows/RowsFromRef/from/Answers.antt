@@ -1,6 +1,6 @@
 use Rattle.std.proofs.Common.{◌∙◌, rules}
 use Rattle.table.proofs.Filled.{tabled_is}
-use Rattle.table.proofs.rows.Rows.of.Goals as goal
+use Rattle.table.proofs.rows.RowsFromRef.from.Goals as goal
 
 pub returns : goal.returns
 returns g c =
