@@ -1,7 +1,7 @@
 -- A number as it is read, digit by digit, never above a limit. Assumes nothing.
 use Rattle.std.proofs.Common.{◌≡◌, ℕ, zero, suc, ◌+◌, ◌-◌, ◌*◌, ◌<◌, ◌≤◌, min, true, false, ltb, List, [], ◌∷◌, ◌++◌, length, get_or, take, Some, None, sym, refl, ap, ◌∙◌, ⊎_elim, arith}
-use Rattle.std.proofs.lemmas.Bool.{cases_lt, lt-ltb, le-ltb, and_parts, and_from, and_left, and_right, cond-true, cond-false}
-use Rattle.std.proofs.lemmas.List.{take_more, take_all}
+use Rattle.std.proofs.lemmas.Bool.{cases_lt, and_parts, and_from, and_left, and_right, cond-false}
+use Rattle.std.proofs.lemmas.List.{take_more}
 use Rattle.protocol.specs.Numbers.{digit, digits, value_after, number_of}
 
 digits_push : (w : List ℕ) (b : ℕ) → digits w ≡ true → digit b ≡ true → digits (w ++ b ∷ []) ≡ true
@@ -50,19 +50,3 @@ digits_not (b ∷ bs) (suc i) inside here = and_right (digit b) (digits bs) (dig
 
 pub no_number : (w : List ℕ) (i : ℕ) → i < length w → digit (get_or w i 0) ≡ false → None ≡ number_of w
 no_number w i inside here = sym (cond-false _ (Some (value_after 0 w)) None (and_right (ltb 0 (length w)) _ (and_left (digits w) _ (digits_not w i inside here))))
-
-pub empty_number : (w : List ℕ) → length w ≡ 0 → None ≡ number_of w
-empty_number w e = sym (cond-false _ (Some (value_after 0 w)) None (and_left (ltb 0 (length w)) _ (le-ltb 0 (length w) (omega arith))))
-
-module _ (w : List ℕ) (i n : ℕ) (read : Read w i n) (past : length w ≤ i) where
-  whole : take i w ≡ w
-  whole = take_all i w past
-
-  pub great_number : 4294967296 ≤ n → None ≡ number_of w
-  great_number l = sym (cond-false _ (Some (value_after 0 w)) None (and_right (ltb 0 (length w)) _ (and_right (digits w) _ (le-ltb (value_after 0 w) 4294967296 (omega (arith, read.past l, ap (value_after 0) whole))))))
-
-  pub some_number : 0 < length w → n < 4294967296 → Some n ≡ number_of w
-  some_number some l =
-      let value : n ≡ value_after 0 w = read.below l ∙ ap (value_after 0) whole in
-      let all : digits w ≡ true = sym (ap digits whole) ∙ read.all in
-      ap Some value ∙ sym (cond-true _ (Some (value_after 0 w)) None (and_from (ltb 0 (length w)) _ (lt-ltb 0 (length w) some) (and_from (digits w) _ all (lt-ltb (value_after 0 w) 4294967296 (omega (arith, value))))))

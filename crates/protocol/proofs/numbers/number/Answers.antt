@@ -1,5 +1,5 @@
-use Rattle.std.proofs.Common.{sym, arith}
-use Rattle.protocol.proofs.Digits.{read_none, read_more, no_number, great_number, some_number}
+use Rattle.std.proofs.Common.{sym}
+use Rattle.protocol.proofs.Digits.{read_none, read_more, no_number}
 use Rattle.protocol.proofs.numbers.number.Goals as goal
 
 pub loop-byte-init : goal.loop-byte-init
@@ -10,9 +10,3 @@ loop-byte-preserved c = read_more c.args.word.now c.loop-byte.byte-index c.loop-
 
 pub returns-then-not-is_digit : goal.returns-then-not-is_digit
 returns-then-not-is_digit c = no_number c.args.word.now c.loop-byte.byte-index c.loop-byte-test.true (sym c.if-not-is_digit.ensures)
-
-pub returns-then-n-eq-LIMIT : goal.returns-then-n-eq-LIMIT
-returns-then-n-eq-LIMIT c = great_number c.args.word.now c.loop-byte.byte-index c.loop-byte.n c.loop-byte.invariant c.loop-byte-test.false (omega arith)
-
-pub returns : goal.returns
-returns c = some_number c.args.word.now c.loop-byte.byte-index c.loop-byte.n c.loop-byte.invariant c.loop-byte-test.false (omega arith) (omega (arith, c.loop-byte.invariant.limit))
