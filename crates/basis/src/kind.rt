@@ -13,7 +13,8 @@ pub const LAST_AGE: u32 = 120;
 // How many ages there are, from 0 to the last.
 pub const AGES: u32 = 121;
 
-// The range of the final age.
+// The range of the final age. Each type that has one keeps its two ends, and no type of its own does: the interface answers
+// a plain number.
 pub const LEAST_FINAL_AGE: u32 = 20;
 
 pub const GREATEST_FINAL_AGE: u32 = 80;

@@ -25,7 +25,8 @@ use table::Table;
 use valuation::terms::Terms;
 
 // What the promises of the input are asked for: whether they would be taken, or what they are worth. With their worth
-// goes the week of an employer's stock.
+// goes the week of an employer's stock. Two programs, a closed choice: a trait of it would be public, with methods that print
+// and of which nothing could be stated.
 #[derive(Clone, Copy, PartialEq, Eq, Debug)]
 pub enum Task {
     Consider,

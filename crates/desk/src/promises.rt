@@ -6,9 +6,9 @@ use fault::Fault;
 use input::Repeated;
 use std::str::SplitWhitespace;
 use std::{fmt, io};
-use stock::call::Answer;
 use valuation::admission::{LEAST_COLUMN, check_promise};
 use valuation::benefit::Benefit;
+use valuation::pair::Pair;
 use valuation::promise::Promise;
 use valuation::terms::Terms;
 use valuation::value::value;
@@ -61,14 +61,14 @@ fn read_promise(rt: &HostRuntime, line: &str) -> anyhow::Result<Asked> {
 #[derive(Clone, Copy)]
 enum Told {
     Taken,
-    Worth(Answer),
+    Worth(Pair),
 }
 
 impl fmt::Display for Told {
     fn fmt<W: fmt::Write>(&self, f: &mut fmt::Formatter<W>) -> fmt::Result {
         match self {
             Told::Taken => write!(f, "taken"),
-            Told::Worth(answer) => write!(f, "{answer}"),
+            Told::Worth(pair) => write!(f, "{pair} cents"),
         }
     }
 }
@@ -83,7 +83,7 @@ fn consider<B: Basis>(basis: &B, asked: &Asked, task: Task) -> Result<Told, Faul
         }
         Task::Value => {
             let pair = value(basis, terms, asked.promise(), &mut column)?;
-            Ok(Told::Worth(Answer::Cents(pair)))
+            Ok(Told::Worth(pair))
         }
     }
 }

@@ -10,7 +10,7 @@ use basis::interface::Basis;
 use basis::kind::{CERTAIN, Kind, LAST_AGE};
 
 // Takes a question down the layers to the bottom, but at the last age no further, since of that age all below tell the
-// same. Answers the layers left above the question, and the age that it has under them.
+// same. Answers the layers left above the question, which begin at a depth, and the age that it has under them.
 pub(crate) fn descend(layers: &[Layer], final_age: u32, kind: Kind, mut age: u32) -> (&[Layer], u32)
     ensures { (f : Figures) → Lawful f → f.final_age ≡ final_age → age < count f.final_age kind → carried kind (greatest f kind result.1) result.0.now (f.figure kind result.1) ≡ (piled layers.now f).figure kind age }
 {

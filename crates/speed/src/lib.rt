@@ -46,7 +46,7 @@ fn repeat<B: Basis>(basis: &B, terms: Terms, promise: Promise<'_>, times: u32) -
     sum
 }
 
-// A promise of 12,000 a year. The benefit is given by its place among all.
+// A promise of 12,000 a year. The benefit is given by its place among all, and the terms by their two numbers, as C has them.
 fn repeat_at<B: Basis>(
     basis: &B,
     interest: u32,

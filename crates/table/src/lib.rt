@@ -24,7 +24,8 @@ use basis::kind::Kind;
 use basis::straight_line::StraightLine;
 use fault::{Fault, Refusal};
 
-// The length of the longest book, that of final age 80: a buffer of this length takes any.
+// The length of the longest book, that of final age 80: a buffer of this length takes any. Buffers are lent, and a book fills
+// their first bytes: the project allows no heap here.
 pub const LONGEST_BOOK: usize = 3097;
 
 #[derive(Clone, Copy)]

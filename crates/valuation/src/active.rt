@@ -41,7 +41,7 @@ impl Rates {
             .of(later + same_year)
     }
 
-    // The share of an active below the final age.
+    // The share of an active below the final age: of a path's plain numbers, the benefit and one age.
     fn share_below<B: Basis>(
         &self,
         basis: &B,

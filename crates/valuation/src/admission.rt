@@ -10,7 +10,7 @@ use fault::{Fault, Refusal};
 // The greatest yearly amount, in euros.
 pub const GREATEST_AMOUNT: u32 = 1_000_000;
 
-// The least length of a working column.
+// The least length of a working column, which is lent: the project allows no heap here.
 pub const LEAST_COLUMN: usize = 512;
 
 // Whether a promise would be valued on a basis with a column of this length: the first fault in the order of the
@@ -37,7 +37,7 @@ pub fn check_promise<B: Basis>(basis: &B, promise: Promise<'_>, column: &[u64]) 
     Ok(())
 }
 
-// The first amount above the limit, by its index.
+// The first amount above the limit, found by a loop over the amounts with their index, as the project wants it.
 fn check_amounts(amounts: &[u32]) -> Result<(), Fault>
     requires { length amounts.now ≤ 121 }
     ensures { Outcome result (amounts_fault amounts.now) (λ _. Unit {0}) }

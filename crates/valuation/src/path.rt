@@ -27,7 +27,8 @@ pub(crate) trait Path<B: Basis> {
         ensures modest { result ≤ 250 * scale };
 }
 
-// The sum in units of 2^-20 cents, from the last year to the first, and by how much it may fall short.
+// The sum in units of 2^-20 cents, from the last year to the first, and by how much it may fall short: a pair of numbers, as
+// the project has all sums answered.
 pub(crate) fn run<B: Basis, P: Path<B>>(
     path: &P,
     basis: &B,

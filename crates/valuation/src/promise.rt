@@ -11,13 +11,11 @@ pub struct Promise<'a> {
     pub amounts: &'a [u32],
 }
 
-// A promise that has passed the checks.
+// One that has passed the checks.
 #[derive(Clone, Copy)]
 pub(crate) struct Taken<'a> {
-    pub(crate) benefit: Benefit,
-    pub(crate) age: u32,
-    pub(crate) amounts: &'a [u32],
-    ghost aged: { age ≤ 120 },
-    ghost few: { length amounts.now ≤ 121 },
-    ghost modest: { (k : ℕ) → slice_index amounts.now k ≤ 1000000 },
+    pub(crate) promise: Promise<'a>,
+    ghost aged: { promise.age ≤ 120 },
+    ghost few: { length promise.amounts.now ≤ 121 },
+    ghost modest: { (k : ℕ) → slice_index promise.amounts.now k ≤ 1000000 },
 }

@@ -9,7 +9,7 @@ use crate::terms::Terms;
 use basis::interface::Basis;
 use basis::kind::{CERTAIN, Kind};
 
-// The terms with their numbers: v, K and 1 − K.
+// The terms, copied out since every clause names them, with their numbers: v, K and 1 − K.
 #[derive(Clone, Copy)]
 pub(crate) struct Rates {
     pub(crate) interest: u32,

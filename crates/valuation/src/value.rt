@@ -92,15 +92,15 @@ impl Rates {
         column: Column<'_>,
     ) -> (u64, u64)
         requires { Reads (B.figures basis.now) self.now.interest self.now.instalments stream.level column.widows.now }
-        ensures low { result.0 ≡ running (λ k. goes_on (B.figures basis.now) self.now.interest self.now.instalments stream.population (taken.entry.age + k)) (λ k. level_share (B.figures basis.now) self.now.interest self.now.instalments stream.population stream.level (taken.entry.age + k)) (λ k. weight (slice_index taken.entry.amounts.now k)) (length taken.entry.amounts.now) 0 }
-        ensures short { result.1 ≡ slack (λ k. weight (slice_index taken.entry.amounts.now k)) (length taken.entry.amounts.now) 0 }
+        ensures low { result.0 ≡ running (λ k. goes_on (B.figures basis.now) self.now.interest self.now.instalments stream.population (taken.entry.promise.age + k)) (λ k. level_share (B.figures basis.now) self.now.interest self.now.instalments stream.population stream.level (taken.entry.promise.age + k)) (λ k. weight (slice_index taken.entry.promise.amounts.now k)) (length taken.entry.promise.amounts.now) 0 }
+        ensures short { result.1 ≡ slack (λ k. weight (slice_index taken.entry.promise.amounts.now k)) (length taken.entry.promise.amounts.now) 0 }
     {
         let path = LifePath {
             rates: *self,
             stream,
-            age: taken.age,
+            age: taken.promise.age,
         };
-        run(&path, basis, column, taken.amounts)
+        run(&path, basis, column, taken.promise.amounts)
     }
 
     // The sum along an active's path.
@@ -111,16 +111,16 @@ impl Rates {
         widows: &[u64],
         part: &mut [u64; AGES],
     ) -> (u64, u64)
-        requires { WidowsFor (B.figures basis.now) self.now.interest self.now.instalments taken.benefit widows.now }
-        ensures low { result.0 ≡ running (λ k. stays_on (B.figures basis.now) self.now.interest self.now.instalments (taken.entry.age + k)) (λ k. active_share (B.figures basis.now) self.now.interest self.now.instalments taken.entry.benefit (taken.entry.age + k)) (λ k. weight (slice_index taken.entry.amounts.now k)) (length taken.entry.amounts.now) 0 }
-        ensures short { result.1 ≡ slack (λ k. weight (slice_index taken.entry.amounts.now k)) (length taken.entry.amounts.now) 0 }
+        requires { WidowsFor (B.figures basis.now) self.now.interest self.now.instalments taken.promise.benefit widows.now }
+        ensures low { result.0 ≡ running (λ k. stays_on (B.figures basis.now) self.now.interest self.now.instalments (taken.entry.promise.age + k)) (λ k. active_share (B.figures basis.now) self.now.interest self.now.instalments taken.entry.promise.benefit (taken.entry.promise.age + k)) (λ k. weight (slice_index taken.entry.promise.amounts.now k)) (length taken.entry.promise.amounts.now) 0 }
+        ensures short { result.1 ≡ slack (λ k. weight (slice_index taken.entry.promise.amounts.now k)) (length taken.entry.promise.amounts.now) 0 }
     {
-        let at_final = self.at_final(basis, taken.benefit, widows, part);
-        self.fill_invalids(basis, taken.benefit, widows, part);
+        let at_final = self.at_final(basis, taken.promise.benefit, widows, part);
+        self.fill_invalids(basis, taken.promise.benefit, widows, part);
         let path = ActivePath {
             rates: *self,
-            benefit: taken.benefit,
-            age: taken.age,
+            benefit: taken.promise.benefit,
+            age: taken.promise.age,
             final_age: basis.final_age(),
             at_final,
         };
@@ -128,20 +128,20 @@ impl Rates {
             widows,
             later: part,
         };
-        run(&path, basis, column, taken.amounts)
+        run(&path, basis, column, taken.promise.amounts)
     }
 
     // The sum of a promise, and by how much it may fall short.
     fn sum_of<B: Basis>(&self, basis: &B, taken: Taken<'_>, column: &mut [u64]) -> (u64, u64)
         requires long { 242 ≤ length column.old }
-        requires spanned { length taken.amounts.now ≡ span (B.figures basis.now).final_age taken.benefit taken.age }
-        ensures low { result.0 ≡ low_units (B.figures basis.now) self.now.interest self.now.instalments taken.entry.benefit taken.entry.age taken.entry.amounts.now }
-        ensures high { result.0 + result.1 ≡ high_units (B.figures basis.now) self.now.interest self.now.instalments taken.entry.benefit taken.entry.age taken.entry.amounts.now }
+        requires spanned { length taken.promise.amounts.now ≡ span (B.figures basis.now).final_age taken.promise.benefit taken.promise.age }
+        ensures low { result.0 ≡ low_units (B.figures basis.now) self.now.interest self.now.instalments taken.entry.promise.benefit taken.entry.promise.age taken.entry.promise.amounts.now }
+        ensures high { result.0 + result.1 ≡ high_units (B.figures basis.now) self.now.interest self.now.instalments taken.entry.promise.benefit taken.entry.promise.age taken.entry.promise.amounts.now }
     {
         let (widows, rest) = column.split_first_chunk_mut::<AGES>().unwrap();
         let later = rest.first_chunk_mut::<AGES>().unwrap();
-        self.fill_widows(basis, taken.benefit, widows);
-        match taken.benefit.stream() {
+        self.fill_widows(basis, taken.promise.benefit, widows);
+        match taken.promise.benefit.stream() {
             Some(stream) => self.along_life(basis, stream, taken, Column { widows, later }),
             None => self.along_active(basis, taken, widows, later),
         }
@@ -160,17 +160,7 @@ pub fn value<B: Basis>(
     ensures len { length column.new ≡ length column.old }
 {
     check_promise(basis, promise, column)?;
-    let Promise {
-        benefit,
-        age,
-        amounts,
-    } = promise;
-    let taken = Taken {
-        benefit,
-        age,
-        amounts,
-    };
-    let (low, short) = Rates::from(terms).sum_of(basis, taken, column);
+    let (low, short) = Rates::from(terms).sum_of(basis, Taken { promise }, column);
     let lower = low / UNIT;
     let upper = (low + short + (UNIT - 1)) / UNIT;
     Ok(Pair { lower, upper })

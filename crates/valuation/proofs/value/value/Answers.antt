@@ -3,8 +3,8 @@ use Rattle.valuation.proofs.Granted.{granted}
 use Rattle.valuation.proofs.Pairing.{span_few, sum_small, valued_sum}
 use Rattle.valuation.proofs.value.value.Goals as goal
 
-pub invariant_of-taken : goal.invariant_of-taken
-invariant_of-taken g c =
+pub invariant_of-sum_of : goal.invariant_of-sum_of
+invariant_of-sum_of g c =
     let z = (g.B.Basis.figures c.args.basis.now).final_age in
     let passed = granted z c.args.promise.benefit c.args.promise.age c.args.promise.amounts.now _ c.in_ok-check_promise.ensures.0 in
     let years = span_few z (g.met.B.Basis.lawful c.args.basis.now).aged.1 c.args.promise.benefit in
