@@ -83,10 +83,7 @@ impl<B: Basis> Stock<B> {
     pub fn total(&self) -> Pair
         ensures { Tells B.figures self.now Total (λ es. TotalIn B.figures self.now es result) }
     {
-        Pair {
-            lower: self.slots.lower,
-            upper: self.slots.upper,
-        }
+        self.slots.total
     }
 
     // How many promises are in force.
