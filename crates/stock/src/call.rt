@@ -7,6 +7,7 @@ use valuation::pair::Pair;
 use valuation::promise::Promise;
 
 // A call with its arguments: a key, a promise, and of the lent column its length.
+// The three are no record, since they are the arguments of the stock's own methods, in their order.
 #[derive(Clone, Copy, PartialEq, Eq, Debug)]
 pub enum Call<'a> {
     Total,

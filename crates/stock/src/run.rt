@@ -3,6 +3,7 @@ use crate::call::Call;
 use valuation::terms::Terms;
 
 // What a stock is opened with, and all the calls that it has then.
+// Basis and terms are two fields, as a stock has them: a valuation is lent the basis, and takes the terms by value.
 #[derive(Drop)]
 pub struct Run<'a, B> {
     pub basis: B,

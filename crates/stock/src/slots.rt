@@ -7,7 +7,7 @@ use crate::record::Record;
 use fault::{Fault, Refusal};
 use valuation::pair::Pair;
 
-// How many promises a stock has room for.
+// How many promises a stock has room for: a table of fixed room, and no heap, is a rule of the project.
 pub(crate) const PLACES: usize = 512;
 
 // What a free place adds to the totals.
@@ -16,12 +16,11 @@ const NOTHING: Pair = Pair { lower: 0, upper: 0 };
 #[derive(Drop)]
 pub(crate) struct Slots {
     pub(crate) records: [Option<Record>; PLACES],
-    pub(crate) lower: u64,
-    pub(crate) upper: u64,
+    pub(crate) total: Pair,
     pub(crate) count: u64,
     ghost full: { length records ≡ 512 },
-    ghost lows: { lower ≡ sum_by low_of records },
-    ghost highs: { upper ≡ sum_by high_of records },
+    ghost lows: { total.lower ≡ sum_by low_of records },
+    ghost highs: { total.upper ≡ sum_by high_of records },
     ghost counted: { count ≡ count_by is_some records },
 }
 
@@ -39,8 +38,7 @@ impl Slots {
     {
         Slots {
             records: [None; PLACES],
-            lower: 0,
-            upper: 0,
+            total: NOTHING,
             count: 0,
         }
     }
@@ -54,8 +52,10 @@ impl Slots {
         self.records[place] = new;
         let removed = adds(old);
         let added = adds(new);
-        self.lower = self.lower - removed.lower + added.lower;
-        self.upper = self.upper - removed.upper + added.upper;
+        self.total = Pair {
+            lower: self.total.lower - removed.lower + added.lower,
+            upper: self.total.upper - removed.upper + added.upper,
+        };
         self.count = self.count - u64::from(old.is_some()) + u64::from(new.is_some());
     }
 

@@ -36,6 +36,7 @@ impl<B: Basis> Stock<B> {
     }
 
     // The pair of a promise on this stock's basis, under its terms.
+    // Key, promise and column are no record: the promise is what is valued, and the column is lent for this call alone.
     fn worth(&self, key: u32, promise: Promise<'_>, column: &mut [u64]) -> Result<Record, Fault>
         ensures { Outcome result (promise_fault (B.figures self.now.basis).final_age (promised promise.entry) (length column.old)) (λ x. (x.key ≡ key) × WorthyIn B.figures self.now (promised promise.entry) x.pair) }
     {
@@ -83,10 +84,7 @@ impl<B: Basis> Stock<B> {
     pub fn total(&self) -> Pair
         ensures { Tells B.figures self.now Total (λ es. TotalIn B.figures self.now es result) }
     {
-        Pair {
-            lower: self.slots.lower,
-            upper: self.slots.upper,
-        }
+        self.slots.total
     }
 
     // How many promises are in force.
