@@ -1,10 +1,11 @@
 -- What a word gives as a repeated amount. Assumes nothing.
-use Rattle.std.specs.Prelude.{ℕ, ◌^◌, ◌<◌, ◌==◌, Bool, cond, List, [], ◌∷◌, length, Result, IfErr}
+use Rattle.std.specs.Prelude.{ℕ, ◌==◌, Bool, cond, List, [], ◌∷◌, length, Result, IfErr}
 use Rattle.std.specs.List.{position_or_len, before_first, after_first}
 use Rattle.std.specs.Result.{OkIff}
-use Rattle.std.specs.Str.Parse.{IsNumeral, IsParseIntError, digits_value, error_kind, without_leading_plus}
+use Rattle.std.specs.Str.Parse.{IsParseIntError, error_kind, without_leading_plus}
 use Rattle.std.specs.declared.num.IntErrorKind.TheVariants.{PosOverflow}
 use Rattle.std.specs.declared.num.ParseIntError.{ParseIntError}
+use Rattle.input.specs.Number.{IsUnsigned, number_of}
 use Rattle.input.specs.declared.Repeated.{Repeated}
 
 -- the byte of `*`
@@ -23,13 +24,7 @@ times_text word = cond (plain word) (49 ∷ []) (before_first is_star word)
 abbrev pub amount_text : List ℕ → List ℕ
 amount_text word = cond (plain word) word (after_first is_star word)
 
--- the number that a text writes, whether it is one of k bits, and why it is none
-abbrev pub number_of : List ℕ → ℕ
-number_of text = digits_value 10 (without_leading_plus text)
-
-abbrev pub IsUnsigned : ℕ → List ℕ → Type 0
-IsUnsigned k text = IsNumeral 10 (without_leading_plus text) × (number_of text < 2 ^ k)
-
+-- why a text writes no number
 abbrev pub IsErrorOf : List ℕ → ParseIntError → Type 0
 IsErrorOf text e = IsParseIntError 10 text (without_leading_plus text) PosOverflow (error_kind e)
 

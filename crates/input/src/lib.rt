@@ -1,8 +1,10 @@
 // What the programs read from their lines.
 #![tactic(auto)]
 
-ghost use Rattle.std.specs.Prelude.{◌≡◌, ◌++◌, OnOk, OnErr, replicate};
+ghost use Rattle.std.specs.Prelude.{◌≡◌, ◌++◌, OnOk, OnErr, IsErr, OkIff, MatchOption, replicate};
+ghost use Rattle.input.specs.Number.{IsUnsigned, number_of};
 
+use anyhow::Context;
 use std::alloc::AllocError;
 use std::num::ParseIntError;
 use std::str::FromStr;
@@ -42,6 +44,20 @@ impl Repeated {
     }
 }
 
+// The word as a number, with a message of this crate's own where there is no word.
+pub fn number(word: Option<&str>) -> anyhow::Result<u64>
+    ensures { MatchOption word.entry (IsErr result) (λ w. OkIff result (IsUnsigned 64 w.now) (number_of w.now)) }
+{
+    Ok(word.context("a number is missing")?.parse::<u64>()?)
+}
+
+// The word as a number of 32 bits. It is read as one of 64 bits, and what is too large for 32 gives the error of `try_from`.
+pub fn small_number(word: Option<&str>) -> anyhow::Result<u32>
+    ensures { MatchOption word.entry (IsErr result) (λ w. OkIff result (IsUnsigned 32 w.now) (number_of w.now)) }
+{
+    Ok(u32::try_from(number(word)?)?)
+}
+
 #[cfg(test)]
 mod tests {
     use super::*;
@@ -59,5 +75,14 @@ mod tests {
     #[test]
     fn times_are_a_number(rt: HostRuntime) {
         assert!(rt; "x*5".parse::<Repeated>().is_err());
+    }
+
+    #[test]
+    fn words_become_numbers(rt: HostRuntime) -> Result<(), Fail> {
+        assert_eq!(rt; number(Some("4294967296"))?, 4_294_967_296);
+        assert_eq!(rt; small_number(Some("4294967295"))?, 4_294_967_295);
+        assert!(rt; number(None).is_err());
+        assert!(rt; small_number(Some("4294967296")).is_err());
+        Ok(())
     }
 }

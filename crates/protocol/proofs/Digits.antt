@@ -2,7 +2,12 @@
 use Rattle.std.proofs.Common.{◌≡◌, ℕ, zero, suc, ◌+◌, ◌-◌, ◌*◌, ◌<◌, ◌≤◌, min, true, false, ltb, List, [], ◌∷◌, ◌++◌, length, get_or, take, Some, None, sym, refl, ap, ◌∙◌, ⊎_elim, arith}
 use Rattle.std.proofs.lemmas.Bool.{cases_lt, and_parts, and_from, and_left, and_right, cond-false}
 use Rattle.std.proofs.lemmas.List.{take_more}
+use Rattle.std.specs.Char.{is_ascii_digit}
 use Rattle.protocol.specs.Numbers.{digit, digits, value_after, number_of}
+
+-- the library's digits are these
+pub digit_is : (b : ℕ) → digit b ≡ is_ascii_digit b
+digit_is b = grind arith
 
 digits_push : (w : List ℕ) (b : ℕ) → digits w ≡ true → digit b ≡ true → digits (w ++ b ∷ []) ≡ true
 unfolding digits

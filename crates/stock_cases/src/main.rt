@@ -6,7 +6,7 @@ use basis::loading::Loading;
 use basis::shift::Shift;
 use basis::straight_line::StraightLine;
 use fault::{Fault, Place};
-use input::Repeated;
+use input::{Repeated, number, small_number};
 use pile::Pile;
 use pile::bottom::Bottom;
 use pile::layer::Layer;
@@ -96,7 +96,7 @@ enum Foretold {
 
 #[derive(Drop)]
 struct Row {
-    line: u32,
+    line: usize,
     foretold: Foretold,
     asked: Asked,
 }
@@ -123,15 +123,6 @@ struct Report {
     tallies: [Tally; 6],
 }
 
-// The next word as a number, with a message of the program's own.
-fn number(words: &mut SplitWhitespace<'_>) -> anyhow::Result<u64> {
-    Ok(words.next().context("a number is missing")?.parse::<u64>()?)
-}
-
-fn small_number(words: &mut SplitWhitespace<'_>) -> anyhow::Result<u32> {
-    Ok(u32::try_from(number(words)?)?)
-}
-
 // Yearly amounts, each word `A`, or `N*A` for N times A, under this program's error.
 fn read_amounts(rt: &HostRuntime, words: &mut SplitWhitespace<'_>) -> anyhow::Result<Vec<u32>> {
     let mut amounts = Vec::new(rt.alloc());
@@ -150,7 +141,7 @@ fn read_handed(
         benefit: Benefit::from_name(words.next().context("no benefit")?).context(
             "no such benefit",
         )?,
-        age: small_number(words)?,
+        age: small_number(words.next())?,
         amounts: read_amounts(rt, words)?,
         column: column.parse::<usize>()?,
     })
@@ -161,10 +152,10 @@ fn read_asked(rt: &HostRuntime, words: &mut SplitWhitespace<'_>) -> anyhow::Resu
     let word = words.next().context("no call")?;
     let (name, column) = word.split_once(':').unwrap_or((word, "512"));
     match name {
-        "admit" => Ok(Asked::Admit(small_number(words)?, read_handed(rt, words, column)?)),
-        "amend" => Ok(Asked::Amend(small_number(words)?, read_handed(rt, words, column)?)),
-        "release" => Ok(Asked::Release(small_number(words)?)),
-        "promise" => Ok(Asked::Promise(small_number(words)?)),
+        "admit" => Ok(Asked::Admit(small_number(words.next())?, read_handed(rt, words, column)?)),
+        "amend" => Ok(Asked::Amend(small_number(words.next())?, read_handed(rt, words, column)?)),
+        "release" => Ok(Asked::Release(small_number(words.next())?)),
+        "promise" => Ok(Asked::Promise(small_number(words.next())?)),
         "total" => Ok(Asked::Total),
         "count" => Ok(Asked::Count),
         _ => Err(anyhow!("no such call")),
@@ -176,17 +167,17 @@ fn read_foretold(words: &mut SplitWhitespace<'_>) -> anyhow::Result<Foretold> {
     match words.next() {
         Some("done") => Ok(Foretold::Done),
         Some("cents") => Ok(Foretold::Cents(Worth {
-            floor: number(words)?,
-            ceiling: number(words)?,
-            promises: small_number(words)?,
-            amounts: number(words)?,
+            floor: number(words.next())?,
+            ceiling: number(words.next())?,
+            promises: small_number(words.next())?,
+            amounts: number(words.next())?,
         })),
-        Some("number") => Ok(Foretold::Number(number(words)?)),
+        Some("number") => Ok(Foretold::Number(number(words.next())?)),
         Some("refused") => {
-            let number = small_number(words)?;
+            let number = small_number(words.next())?;
             let place = Place {
-                first: small_number(words)?,
-                second: small_number(words)?,
+                first: small_number(words.next())?,
+                second: small_number(words.next())?,
             };
             Ok(Foretold::Refused(number, place))
         }
@@ -195,7 +186,7 @@ fn read_foretold(words: &mut SplitWhitespace<'_>) -> anyhow::Result<Foretold> {
 }
 
 // A foretold answer, a bar, and the call.
-fn read_row(rt: &HostRuntime, line: u32, text: &str) -> anyhow::Result<Row> {
+fn read_row(rt: &HostRuntime, line: usize, text: &str) -> anyhow::Result<Row> {
     let (foretold, asked) = text.split_once('|').context("no bar")?;
     Ok(Row {
         line,
@@ -280,7 +271,12 @@ fn answer_to(stock: &mut Stock<Pile>, asked: &Asked) -> Result<Answer, Fault> {
     }
 }
 
-fn print_answer(rt: &HostRuntime, line: u32, answer: Result<Answer, Fault>) -> anyhow::Result<()> {
+// Other words than the `Display` of `Answer` has: a pair without `cents`, and `number N`.
+fn print_answer(
+    rt: &HostRuntime,
+    line: usize,
+    answer: Result<Answer, Fault>,
+) -> anyhow::Result<()> {
     match answer {
         Ok(Answer::Done) => println!(rt; "line {line}: done")?,
         Ok(Answer::Cents(pair)) => println!(rt; "line {line}: {pair}")?,
@@ -341,7 +337,7 @@ impl Session {
     }
 
     // A line that is no first one: `shift S`, `loading F`, `open INTEREST INSTALMENTS`, or a row.
-    fn read(&mut self, rt: &HostRuntime, line: u32, text: &str) -> anyhow::Result<()> {
+    fn read(&mut self, rt: &HostRuntime, line: usize, text: &str) -> anyhow::Result<()> {
         let mut words = text.split_whitespace();
         match words.next() {
             Some("shift") => {
@@ -349,12 +345,12 @@ impl Session {
                 self.pile.lay(Layer::Shift(Shift::new(years)?))?;
             }
             Some("loading") => {
-                let thousandths = small_number(&mut words)?;
+                let thousandths = small_number(words.next())?;
                 self.pile.lay(Layer::Loading(Loading::new(thousandths)?))?;
             }
             Some("open") => {
-                let interest = small_number(&mut words)?;
-                self.terms = Terms::new(interest, small_number(&mut words)?)?;
+                let interest = small_number(words.next())?;
+                self.terms = Terms::new(interest, small_number(words.next())?)?;
             }
             _ => self.rows.push(read_row(rt, line, text)?)?,
         }
@@ -375,20 +371,21 @@ impl Session {
 fn main(rt: HostRuntime) -> anyhow::Result<()> {
     let mut report = Report::default();
     let mut session = Session::new(&rt, 65, 0)?;
-    let mut line = 0u32;
-    for text in BufReader::new(rt.alloc(), rt.stdin())?.lines(rt.alloc()) {
+    for (before, text) in BufReader::new(rt.alloc(), rt.stdin())?
+        .lines(rt.alloc())
+        .enumerate()
+    {
         let text = text?;
-        line = line.wrapping_add(1);
         if text.as_str().starts_with('#') {
             continue;
         }
         let mut words = text.as_str().split_whitespace();
         if words.next() == Some("line") {
             session.play(&rt, &mut report)?;
-            let final_age = small_number(&mut words)?;
-            session = Session::new(&rt, final_age, small_number(&mut words)?)?;
+            let final_age = small_number(words.next())?;
+            session = Session::new(&rt, final_age, small_number(words.next())?)?;
         } else {
-            session.read(&rt, line, text.as_str())?;
+            session.read(&rt, before + 1, text.as_str())?;
         }
     }
     session.play(&rt, &mut report)?;

@@ -6,7 +6,7 @@ use basis::loading::Loading;
 use basis::shift::Shift;
 use basis::straight_line::StraightLine;
 use fault::{Fault, Place};
-use input::Repeated;
+use input::{Repeated, number, small_number};
 use pile::Pile;
 use pile::bottom::Bottom;
 use pile::layer::Layer;
@@ -37,21 +37,11 @@ struct Tally {
     widest: u64,
 }
 
-// Where the reading is, and what it came to so far.
+// What the rows came to so far.
 #[derive(Clone, Copy, Default)]
 struct Report {
-    line: u32,
     tallies: [Tally; 16],
     refused: u32,
-}
-
-// The next word as a number, with a message of the program's own.
-fn number(words: &mut SplitWhitespace<'_>) -> anyhow::Result<u64> {
-    Ok(words.next().context("a number is missing")?.parse::<u64>()?)
-}
-
-fn small_number(words: &mut SplitWhitespace<'_>) -> anyhow::Result<u32> {
-    Ok(u32::try_from(number(words)?)?)
 }
 
 // `table FILE` or `line FINAL_AGE INVALIDITY`.
@@ -64,8 +54,8 @@ fn read_bottom(rt: &HostRuntime, words: &mut SplitWhitespace<'_>) -> anyhow::Res
             Ok(Bottom::Table(table))
         }
         Some("line") => {
-            let final_age = small_number(words)?;
-            Ok(Bottom::Line(StraightLine::new(final_age, small_number(words)?)?))
+            let final_age = small_number(words.next())?;
+            Ok(Bottom::Line(StraightLine::new(final_age, small_number(words.next())?)?))
         }
         _ => Err(anyhow!("no such basis")),
     }
@@ -91,12 +81,12 @@ fn read_pile(rt: &HostRuntime, words: &mut SplitWhitespace<'_>) -> anyhow::Resul
 
 fn read_question(words: &mut SplitWhitespace<'_>) -> anyhow::Result<Question> {
     Ok(Question {
-        interest: small_number(words)?,
-        instalments: small_number(words)?,
+        interest: small_number(words.next())?,
+        instalments: small_number(words.next())?,
         benefit: Benefit::from_name(words.next().context("no benefit")?).context(
             "no such benefit",
         )?,
-        age: small_number(words)?,
+        age: small_number(words.next())?,
     })
 }
 
@@ -141,14 +131,14 @@ impl Report {
     fn hold_row(
         &mut self,
         rt: &HostRuntime,
+        line: usize,
         pile: &Pile,
         words: &mut SplitWhitespace<'_>,
     ) -> anyhow::Result<()> {
         let question = read_question(words)?;
-        let floor = number(words)?;
-        let ceiling = number(words)?;
+        let floor = number(words.next())?;
+        let ceiling = number(words.next())?;
         let amounts = read_amounts(rt, words)?;
-        let line = self.line;
         match value_on(pile, question, amounts.as_slice()) {
             Ok(pair) => {
                 let gap = pair.upper.saturating_sub(pair.lower);
@@ -172,17 +162,17 @@ impl Report {
     fn hold_fault(
         &mut self,
         rt: &HostRuntime,
+        line: usize,
         pile: &Pile,
         words: &mut SplitWhitespace<'_>,
     ) -> anyhow::Result<()> {
         let question = read_question(words)?;
-        let number = small_number(words)?;
+        let number = small_number(words.next())?;
         let foretold = Place {
-            first: small_number(words)?,
-            second: small_number(words)?,
+            first: small_number(words.next())?,
+            second: small_number(words.next())?,
         };
         let amounts = read_amounts(rt, words)?;
-        let line = self.line;
         match value_on(pile, question, amounts.as_slice()) {
             Ok(pair) => println!(rt; "line {line}: {pair}")?,
             Err(fault) => {
@@ -218,17 +208,16 @@ impl Report {
 fn main(rt: HostRuntime) -> anyhow::Result<()> {
     let mut report = Report::default();
     let mut pile = Pile::on(rt.alloc(), Bottom::Table(Table::new()));
-    for text in rt.lines(rt.alloc()) {
+    for (before, text) in rt.lines(rt.alloc()).enumerate() {
         let text = text?;
-        report.line = report.line.wrapping_add(1);
         if text.as_str().starts_with('#') {
             continue;
         }
         let mut words = text.as_str().split_whitespace();
         match words.next() {
             Some("basis") => pile = read_pile(&rt, &mut words)?,
-            Some("row") => report.hold_row(&rt, &pile, &mut words)?,
-            Some("fault") => report.hold_fault(&rt, &pile, &mut words)?,
+            Some("row") => report.hold_row(&rt, before + 1, &pile, &mut words)?,
+            Some("fault") => report.hold_fault(&rt, before + 1, &pile, &mut words)?,
             _ => return Err(anyhow!("no such line")),
         }
     }
