@@ -1,9 +1,9 @@
 -- The totals of a register enclose its exact sum. Assumes nothing.
-use Rattle.std.proofs.Common.{ℕ, ◌+◌, ◌*◌, ◌≤◌, List, [], ◌∷◌, length, sum_by, sym, subst, mul-le-mul_right, arith}
+use Rattle.std.proofs.Common.{ℕ, ◌+◌, ◌*◌, ◌≤◌, List, [], ◌∷◌, length, sum_by, sym, subst, mul-le-mul_right, mul-pos, arith}
 use Rattle.std.specs.List.{AllByRecursion}
 use Rattle.std.proofs.lemmas.List.Sums.{sum_by-cons}
 use Rattle.basis.specs.Figures.{Figures}
-use Rattle.valuation.specs.Fraction.{Fraction, whole, ◌⊕◌, ◌≼◌}
+use Rattle.valuation.specs.Fraction.{Fraction, Proper, whole, ◌⊕◌, ◌≼◌}
 use Rattle.stock.specs.Register.{Entry}
 use Rattle.stock.specs.Law.{exact_of, exact_sum, pair_of, totals, Enclosing}
 use Rattle.stock.specs.Told.{Worth}
@@ -22,6 +22,11 @@ module _ (f : Figures) (interest t : ℕ) where
   abbrev upper_of : Entry → ℕ
   upper_of e = (pair_of f interest t e.promise).upper
 
+  proper_sum : (es : List Entry) → AllByRecursion (Worth f interest t) es → Proper (exact_sum f interest t es)
+  unfolding exact_sum
+  proper_sum [] worth = omega arith
+  proper_sum (e ∷ es) worth = mul-pos worth.0.valued.proper (proper_sum es worth.1)
+
   low_sum : (es : List Entry) → AllByRecursion (Worth f interest t) es → whole (sum_by lower_of es) ≼ exact_sum f interest t es
   unfolding exact_sum
   low_sum [] worth = omega arith
@@ -37,4 +42,4 @@ module _ (f : Figures) (interest t : ℕ) where
   gap_sum (e ∷ es) worth = omega (arith, sum_by-cons upper_of e es, sum_by-cons lower_of e es, worth.0.valued.gap, gap_sum es worth.1)
 
   pub enclosing : (es : List Entry) → AllByRecursion (Worth f interest t) es → Enclosing f interest t es (totals f interest t es)
-  enclosing es worth = record { low = low_sum es worth; high = high_sum es worth; gap = omega (arith, gap_sum es worth) }
+  enclosing es worth = record { proper = proper_sum es worth; low = low_sum es worth; high = high_sum es worth; gap = omega (arith, gap_sum es worth) }

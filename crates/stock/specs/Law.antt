@@ -4,7 +4,7 @@ use Rattle.basis.specs.Figures.{Figures}
 use Rattle.valuation.specs.Benefits.{name}
 use Rattle.valuation.specs.declared.pair.Pair.{Pair}
 use Rattle.valuation.specs.Exact.{exact_cents}
-use Rattle.valuation.specs.Fraction.{Fraction, whole, nought, ◌⊕◌, ◌≼◌}
+use Rattle.valuation.specs.Fraction.{Fraction, Proper, whole, nought, ◌⊕◌, ◌≼◌}
 use Rattle.valuation.specs.Pair.{lower, upper}
 use Rattle.stock.specs.Register.{Promise, Entry}
 
@@ -29,8 +29,9 @@ module _ (f : Figures) (interest instalments : ℕ) where
   abbrev pub yearly : List Entry → ℕ
   yearly es = sum_by (λ e. sum e.promise.amounts) es
 
-  -- The totals of a register: they enclose the exact sum, and are as near to each other as is promised.
+  -- The totals of a register: they enclose the exact sum, which is a fraction, and are as near to each other as is promised.
   pub record Enclosing (es : List Entry) (total : Pair) : Type 0 where
+    pub proper : Proper (exact_sum es)
     pub low : whole total.lower ≼ exact_sum es
     pub high : exact_sum es ≼ whole total.upper
     pub gap : 1000 * (total.upper - total.lower) ≤ 20000 * length es + yearly es

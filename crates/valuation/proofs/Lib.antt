@@ -8,6 +8,7 @@ pub mod Running
 pub mod Cents
 pub mod Levels
 pub mod Years
+pub mod Propers
 pub mod Shares
 pub mod Pairing
 pub mod Added

@@ -22,27 +22,26 @@ use Rattle.valuation.specs.Columns.{Reads, WidowsFor, level_share}
 use Rattle.valuation.specs.ActivePath.{active_share, below_number, final_number}
 use Rattle.valuation.specs.Enclosure.{PairsEnclose}
 use Rattle.valuation.specs.Valued.{Valued}
-use Rattle.valuation.proofs.Fractions.{proper_add}
 use Rattle.valuation.proofs.Enclosures.{stands_sum, stands_wider}
 use Rattle.valuation.proofs.Backward.{remaining, backward, same_value}
-use Rattle.valuation.proofs.Running.{Year, weighed, running_bound, running_low, running_encloses, proper_remaining}
+use Rattle.valuation.proofs.Running.{Year, weighed, running_bound, running_low, running_encloses}
 use Rattle.valuation.proofs.Cents.{cents_low, cents_high}
-use Rattle.valuation.proofs.Shares.{goes_stands, goes_small, goes_below, lives_proper, stays_stands, going_small, stays_below, stays_proper, pension_stands, pension_bound, pension_proper, widowed_stands, widowed_bound, widowed_proper, pensions_stands, pensions_bound, pensions_proper, widows_stands, widows_bound, widows_proper, active_stands, active_bound, active_proper, turning_stands, turning_bound, turning_proper, turning_widow_stands, turning_widow_bound, turning_widow_proper}
+use Rattle.valuation.proofs.Propers.{backward_proper, value_proper, exact_proper}
+use Rattle.valuation.proofs.Shares.{goes_stands, goes_small, goes_below, stays_stands, going_small, stays_below, pension_stands, pension_bound, widowed_stands, widowed_bound, pensions_stands, pensions_bound, widows_stands, widows_bound, active_stands, active_bound, turning_stands, turning_bound, turning_widow_stands, turning_widow_bound}
 
 -- a number of at most B that stands for a fraction with an allowance
 record Fact (n : ℕ) (x : Fraction) (e B : ℕ) : Type 0 where
   stands : Stands n x e
   bound : n ≤ B * scale
-  proper : Proper x
 
 fact_wider : (n : ℕ) (x : Fraction) (e e' B B' : ℕ) → e ≤ e' → B ≤ B' → Fact n x e B → Fact n x e' B'
-fact_wider n x e e' B B' he hB h = record { stands = stands_wider n x e e' he h.stands; bound = omega (arith, h.bound, mul-le-mul_right scale hB); proper = h.proper }
+fact_wider n x e e' B B' he hB h = record { stands = stands_wider n x e e' he h.stands; bound = omega (arith, h.bound, mul-le-mul_right scale hB) }
 
 fact_sum : (n m : ℕ) (x y : Fraction) (e e' B B' : ℕ) → Fact n x e B → Fact m y e' B' → Fact (n + m) (x ⊕ y) (e + e') (B + B')
-fact_sum n m x y e e' B B' h k = record { stands = stands_sum n m x y e e' h.stands k.stands; bound = omega (arith, h.bound, k.bound); proper = proper_add x y h.proper k.proper }
+fact_sum n m x y e e' B B' h k = record { stands = stands_sum n m x y e e' h.stands k.stands; bound = omega (arith, h.bound, k.bound) }
 
 none : (e B : ℕ) → Fact 0 nought e B
-none e B = record { stands = record { low = omega arith; high = omega arith }; bound = omega arith; proper = omega arith }
+none e B = record { stands = record { low = omega arith; high = omega arith }; bound = omega arith }
 
 -- one of two, as a test says
 abbrev pick : {X : Type 0} → Bool → X → X → X
@@ -64,27 +63,27 @@ any_death false a r w A R W ha hr hw =
 
 module _ (f : Figures) (lawful : Lawful f) (interest t : ℕ) (some : 0 < t) (few : t ≤ 12) where
   pension_fact : (b : Kind) (x : ℕ) → Fact (pension_number f interest t b x) (pension f interest t backward b x) 32 1
-  pension_fact b x = record { stands = pension_stands f lawful interest t some few b x; bound = omega (arith, pension_bound f lawful interest t some few b x); proper = pension_proper f lawful interest t some few b x }
+  pension_fact b x = record { stands = pension_stands f lawful interest t some few b x; bound = omega (arith, pension_bound f lawful interest t some few b x) }
 
   widowed_fact : (b : Kind) (x : ℕ) → Fact (widowed_number f interest t b x) (widowed f interest t backward b x) 44652 121
-  widowed_fact b x = record { stands = widowed_stands f lawful interest t some few b x; bound = widowed_bound f lawful interest t some few b x; proper = widowed_proper f lawful interest t some few b x }
+  widowed_fact b x = record { stands = widowed_stands f lawful interest t some few b x; bound = widowed_bound f lawful interest t some few b x }
 
   active_fact : (x : ℕ) → Fact (paid_number (kept_number interest t) (loss_number interest t) (stays_on f interest t x)) (paid interest t (stays f x)) 32 1
-  active_fact x = record { stands = active_stands f lawful interest t some few x; bound = omega (arith, active_bound f lawful interest t some few x); proper = active_proper f lawful interest t some few x }
+  active_fact x = record { stands = active_stands f lawful interest t some few x; bound = omega (arith, active_bound f lawful interest t some few x) }
 
   retiring_fact : Fact (level_number f interest t PopulationDeath (pension_number f interest t PopulationDeath) f.final_age) (retiring f interest t backward) 47916 121
   unfolding retiring
-  retiring_fact = record { stands = pensions_stands f lawful interest t some few PopulationDeath f.final_age; bound = pensions_bound f lawful interest t some few PopulationDeath f.final_age; proper = pensions_proper f lawful interest t some few PopulationDeath f.final_age }
+  retiring_fact = record { stands = pensions_stands f lawful interest t some few PopulationDeath f.final_age; bound = pensions_bound f lawful interest t some few PopulationDeath f.final_age }
 
   retiring_widow_fact : Fact (level_number f interest t PopulationDeath (widowed_number f interest t PopulationDeath) f.final_age) (retiring_widow f interest t backward) 5446936 121
   unfolding retiring_widow
-  retiring_widow_fact = record { stands = widows_stands f lawful interest t some few PopulationDeath f.final_age; bound = widows_bound f lawful interest t some few PopulationDeath f.final_age; proper = widows_proper f lawful interest t some few PopulationDeath f.final_age }
+  retiring_widow_fact = record { stands = widows_stands f lawful interest t some few PopulationDeath f.final_age; bound = widows_bound f lawful interest t some few PopulationDeath f.final_age }
 
   turning_fact : (x : ℕ) → Fact (turning_invalid_number f interest t x) (turning_invalid f interest t backward x) 44530 121
-  turning_fact x = record { stands = turning_stands f lawful interest t some few x; bound = turning_bound f lawful interest t some few x; proper = turning_proper f lawful interest t some few x }
+  turning_fact x = record { stands = turning_stands f lawful interest t some few x; bound = turning_bound f lawful interest t some few x }
 
   turning_widow_fact : (x : ℕ) → Fact (turning_invalid_widow_number f interest t x) (turning_invalid_widow f interest t backward x) 5492074 121
-  turning_widow_fact x = record { stands = turning_widow_stands f lawful interest t some few x; bound = turning_widow_bound f lawful interest t some few x; proper = turning_widow_proper f lawful interest t some few x }
+  turning_widow_fact x = record { stands = turning_widow_stands f lawful interest t some few x; bound = turning_widow_bound f lawful interest t some few x }
 
   -- every share of every benefit
   share_fact : (b : Benefit) (x : ℕ) → Fact (share_number f interest t b x) (share f interest t backward b x) 5600000 250
@@ -118,13 +117,12 @@ module _ (f : Figures) (lawful : Lawful f) (interest t : ℕ) (some : 0 < t) (fe
     stands : Stands n (discount interest ⊗ p) 3
     small : (discount interest ⊗ p).num ≤ (discount interest ⊗ p).den
     below : n ≤ scale
-    proper : Proper p
 
   lives_onward : (b : Kind) (x : ℕ) → Onward (goes_on f interest t b x) (lives f b x)
-  lives_onward b x = record { stands = goes_stands f lawful interest t some few b x; small = goes_small f lawful interest t some few b x; below = goes_below f lawful interest t some few b x; proper = lives_proper f lawful interest t some few b x }
+  lives_onward b x = record { stands = goes_stands f lawful interest t some few b x; small = goes_small f lawful interest t some few b x; below = goes_below f lawful interest t some few b x }
 
   stays_onward : (x : ℕ) → Onward (stays_on f interest t x) (stays f x)
-  stays_onward x = record { stands = stays_stands f lawful interest t some few x; small = going_small f lawful interest t some few x; below = stays_below f lawful interest t some few x; proper = stays_proper f lawful interest t some few x }
+  stays_onward x = record { stands = stays_stands f lawful interest t some few x; small = going_small f lawful interest t some few x; below = stays_below f lawful interest t some few x }
 
   onward : (b : Benefit) (x : ℕ) → Onward (survival_number f interest t b x) (survives f b x)
   onward Retired x = lives_onward PopulationDeath x
@@ -196,10 +194,11 @@ pairs_enclose f lawful interest t usual b x amounts =
     let L : ℕ → Fraction = λ k. share f interest t backward b (x + k) in
     let R : ℕ → ℕ = λ k. get_or amounts k 0 in
     let y = remaining (discount interest) p L R n 0 in
-    let proper = proper_remaining (discount interest) p L R (omega arith) (λ k. (onward f lawful interest t some few b (x + k)).proper) (λ k. (share_fact f lawful interest t some few b (x + k)).proper) n 0 in
+    let proper : Proper y = value_proper f lawful interest t some backward backward_proper b x amounts in
     let same = same_value f interest t b x amounts in
     let years = year f lawful interest t some few b x in
     record {
+      proper = exact_proper f lawful interest t some b x amounts;
       low = cents_low (exact_value f interest t b x amounts) y (running s l (λ k. weight (R k)) n 0) proper same (running_low s l (discount interest) p L R 104857600 5600000 years n 0);
       high = cents_high (exact_value f interest t b x amounts) y (running s l (λ k. weight (R k)) n 0 + slack (λ k. weight (R k)) n 0) proper same
           (running_encloses s l (discount interest) p L R 104857600 5600000 years n 0 (omega arith));
@@ -254,6 +253,7 @@ module _ (f : Figures) (lawful : Lawful f) (interest t : ℕ) (usual : listed t 
       record {
         lower_is = el;
         upper_is = eu;
+        proper = (pairs_enclose f lawful interest t usual b x amounts).proper;
         low = subst (λ n. whole n ≼ exact_cents f interest t b x amounts) (sym el) (pairs_enclose f lawful interest t usual b x amounts).low;
         high = subst (λ n. exact_cents f interest t b x amounts ≼ whole n) (sym eu) (pairs_enclose f lawful interest t usual b x amounts).high;
         ordered = ordered;

@@ -20,7 +20,7 @@ stands_added (suc n) k num den h =
     (stands_sum (fixed (num k) (den k)) (added n (suc k) (λ m. fixed (num m) (den m))) (ratio (num k) (den k)) (total n (suc k) (λ m. ratio (num m) (den m))) 1 n
     (stands_fixed (num k) (den k) (h k)) (stands_added n (suc k) num den h))
 
-proper_total : (n k : ℕ) (g : ℕ → Fraction) → ((m : ℕ) → Proper (g m)) → Proper (total n k g)
+pub proper_total : (n k : ℕ) (g : ℕ → Fraction) → ((m : ℕ) → Proper (g m)) → Proper (total n k g)
 unfolding total
 proper_total zero k g h = omega arith
 proper_total (suc n) k g h = proper_add (g k) (total n (suc k) g) (h k) (proper_total n (suc k) g h)

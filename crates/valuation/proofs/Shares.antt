@@ -1,10 +1,10 @@
 -- What the numbers of the model stand for, up to the yearly shares. Assumes nothing.
-use Rattle.std.proofs.Common.{◌≡◌, ℕ, ◌+◌, ◌-◌, ◌*◌, ◌<◌, ◌≤◌, sym, ap, ◌∙◌, mul-le-mul_right, mul_assoc, mul-le-mul, mul-pos, arith}
+use Rattle.std.proofs.Common.{◌≡◌, ℕ, ◌+◌, ◌-◌, ◌*◌, ◌<◌, ◌≤◌, sym, ap, ◌∙◌, mul-le-mul_right, mul_assoc, mul-le-mul, arith}
 use Rattle.basis.specs.declared.kind.Kind.{Kind}
 use Rattle.basis.specs.declared.kind.Kind.TheVariants.{Invalidity, ActiveDeath, InvalidDeath, WidowDeath, Married, SpouseAge}
 use Rattle.basis.specs.Figures.{Figures, Lawful}
 use Rattle.basis.specs.Layered.{million}
-use Rattle.valuation.specs.Fraction.{Fraction, Proper, one, ◌⊕◌, ◌⊖◌, ◌⊗◌, ◌≈◌}
+use Rattle.valuation.specs.Fraction.{Fraction, one, ◌⊕◌, ◌⊖◌, ◌⊗◌, ◌≈◌}
 use Rattle.valuation.specs.Terms.{discount}
 use Rattle.valuation.specs.Exact.{half, paid, chance, lives, stays, level, annuity, wid, left, pension, widowed, turning_invalid, turning_invalid_widow}
 use Rattle.valuation.specs.Fixed.{scale, fixed, product, Stands}
@@ -13,16 +13,13 @@ use Rattle.valuation.specs.Pair.{running, half_number, sooner_number, goes_on, s
 use Rattle.valuation.specs.declared.stream.Level.{Level}
 use Rattle.valuation.specs.declared.stream.Level.TheVariants.{Annuities, Pensions, Widows}
 use Rattle.valuation.specs.Columns.{level_of, level_share}
-use Rattle.valuation.proofs.Fractions.{proper_add, proper_mul}
+use Rattle.valuation.proofs.Fractions.{proper_mul}
 use Rattle.valuation.proofs.Enclosures.{stands_fixed, stands_sum, stands_same, stands_wider, stands_product}
-use Rattle.valuation.proofs.Rating.{stands_paid, stands_discounted, loss_proper}
+use Rattle.valuation.proofs.Rating.{stands_paid, stands_discounted}
 use Rattle.valuation.proofs.Backward.{backward}
-use Rattle.valuation.proofs.Running.{proper_remaining}
 use Rattle.valuation.proofs.Levels.{shrinks, shares_year, stands_small, stands_running, running_ones, running_exits}
+use Rattle.valuation.proofs.Propers.{discount_proper, paid_proper, backward_proper, lives_proper, stays_proper, next_proper, annuity_proper}
 use Rattle.valuation.proofs.Years.{stands_opposite, stands_opposites, half_stands, half_proper, half_small, sooner_stands, half_sooner, chance_lives}
-
-discount_proper : (interest : ℕ) → Proper (discount interest)
-discount_proper interest = omega arith
 
 discount_small : (interest : ℕ) → (discount interest).num ≤ (discount interest).den
 discount_small interest = omega arith
@@ -45,22 +42,19 @@ module _ (f : Figures) (lawful : Lawful f) (interest t : ℕ) (some : 0 < t) (fe
   chance_below k x = stands_small (chance_number (f.figure k x)) (chance f k x) 1 (omega arith) (limited k x) (chance_stands k x)
 
   -- survivals
-  pub lives_proper : (b : Kind) (x : ℕ) → Proper (lives f b x)
-  lives_proper b x = omega arith
-
   lives_small : (b : Kind) (x : ℕ) → (lives f b x).num ≤ (lives f b x).den
   lives_small b x = omega arith
 
   pub goes_stands : (b : Kind) (x : ℕ) → Stands (goes_on f interest t b x) (discount interest ⊗ lives f b x) 3
   goes_stands b x =
       let s = stands_opposite (f.figure b x) in
-      stands_discounted interest (lives f b x) (lives_number (f.figure b x)) (lives_small b x) (stands_small (lives_number (f.figure b x)) (lives f b x) 1 (lives_proper b x) (lives_small b x) s) s
+      stands_discounted interest (lives f b x) (lives_number (f.figure b x)) (lives_small b x) (stands_small (lives_number (f.figure b x)) (lives f b x) 1 (lives_proper f b x) (lives_small b x) s) s
 
   pub goes_small : (b : Kind) (x : ℕ) → (discount interest ⊗ lives f b x).num ≤ (discount interest ⊗ lives f b x).den
   goes_small b x = mul-le-mul (discount_small interest) (lives_small b x)
 
   pub goes_below : (b : Kind) (x : ℕ) → goes_on f interest t b x ≤ scale
-  goes_below b x = stands_small (goes_on f interest t b x) (discount interest ⊗ lives f b x) 3 (proper_mul (discount interest) (lives f b x) (discount_proper interest) (lives_proper b x)) (goes_small b x) (goes_stands b x)
+  goes_below b x = stands_small (goes_on f interest t b x) (discount interest ⊗ lives f b x) 3 (proper_mul (discount interest) (lives f b x) (discount_proper interest) (lives_proper f b x)) (goes_small b x) (goes_stands b x)
 
   -- v·half
   next_stands : (b : Kind) (x : ℕ) → Stands (to_next_year f interest t b x) (discount interest ⊗ half (chance f b x)) 3
@@ -72,11 +66,8 @@ module _ (f : Figures) (lawful : Lawful f) (interest t : ℕ) (some : 0 < t) (fe
   next_small : (b : Kind) (x : ℕ) → (discount interest ⊗ half (chance f b x)).num ≤ (discount interest ⊗ half (chance f b x)).den
   next_small b x = mul-le-mul (discount_small interest) (half_small (f.figure b x) (limited b x))
 
-  next_proper : (b : Kind) (x : ℕ) → Proper (discount interest ⊗ half (chance f b x))
-  next_proper b x = proper_mul (discount interest) (half (chance f b x)) (discount_proper interest) (half_proper (f.figure b x) (limited b x))
-
   next_below : (b : Kind) (x : ℕ) → to_next_year f interest t b x ≤ scale
-  next_below b x = stands_small (to_next_year f interest t b x) (discount interest ⊗ half (chance f b x)) 3 (next_proper b x) (next_small b x) (next_stands b x)
+  next_below b x = stands_small (to_next_year f interest t b x) (discount interest ⊗ half (chance f b x)) 3 (next_proper f lawful interest b x) (next_small b x) (next_stands b x)
 
   -- values of amount 1 a year
   level_stands : (b : Kind) (l : ℕ → ℕ) (L : ℕ → Fraction) (e : ℕ) → ((y : ℕ) → Stands (l y) (L y) e)
@@ -87,10 +78,6 @@ module _ (f : Figures) (lawful : Lawful f) (interest t : ℕ) (some : 0 < t) (fe
       stands_wider _ _ ((121 - x) * (e + 364)) (121 * (e + 364)) (mul-le-mul_right (e + 364) (omega arith))
       (stands_running (λ j. goes_on f interest t b (x + j)) (λ j. l (x + j)) (discount interest) (λ j. lives f b (x + j)) (λ j. L (x + j)) e
       (λ j. goes_stands b (x + j)) (λ j. goes_small b (x + j)) (λ j. hl (x + j)) (bound x) (121 - x) 0 (omega arith))
-
-  level_proper : (b : Kind) (L : ℕ → Fraction) → ((y : ℕ) → Proper (L y)) → (x : ℕ) → Proper (level f interest t backward b L x)
-  unfolding level backward
-  level_proper b L h x = proper_remaining (discount interest) (λ j. lives f b (x + j)) (λ j. L (x + j)) (λ _. 1) (discount_proper interest) (λ j. lives_proper b (x + j)) (λ j. h (x + j)) (121 - x) 0
 
   -- with shares of at most 1
   ones_bound : (b : Kind) (l : ℕ → ℕ) → ((y : ℕ) → l y ≤ scale) → (x n k : ℕ) → n ≤ 121 → running (λ j. goes_on f interest t b (x + j)) (λ j. l (x + j)) (λ _. scale) n k ≤ 121 * scale
@@ -103,9 +90,6 @@ module _ (f : Figures) (lawful : Lawful f) (interest t : ℕ) (some : 0 < t) (fe
   unfolding level_number
   annuity_bound b x = ones_bound b (λ y. scale) (λ y. omega arith) x (121 - x) 0 (omega arith)
 
-  annuity_proper : (b : Kind) (x : ℕ) → Proper (annuity f interest t backward b x)
-  annuity_proper b x = level_proper b (λ y. one) (λ y. omega arith) x
-
   -- widows
   wid_stands : (y : ℕ) → Stands (wid_number f interest t y) (wid f interest t backward y) 44408
   unfolding wid wid_number
@@ -116,10 +100,6 @@ module _ (f : Figures) (lawful : Lawful f) (interest t : ℕ) (some : 0 < t) (fe
   unfolding wid_number
   wid_bound y = omega (arith, shrinks (to_next_year f interest t WidowDeath y) (annuity_number f interest t WidowDeath (y + 1)) (next_below WidowDeath y), annuity_bound WidowDeath (y + 1))
 
-  wid_proper : (y : ℕ) → Proper (wid f interest t backward y)
-  unfolding wid
-  wid_proper y = proper_mul (discount interest ⊗ half (chance f WidowDeath y)) (annuity f interest t backward WidowDeath (y + 1)) (next_proper WidowDeath y) (annuity_proper WidowDeath (y + 1))
-
   left_stands : (x : ℕ) → Stands (left_number f interest t x) (left f interest t backward x) 44530
   unfolding left_number
   left_stands x = stands_product (chance_number (f.figure Married x)) (wid_number f interest t (f.figure SpouseAge x)) (chance f Married x) (wid f interest t backward (f.figure SpouseAge x)) 1 44408 121
@@ -129,9 +109,6 @@ module _ (f : Figures) (lawful : Lawful f) (interest t : ℕ) (some : 0 < t) (fe
   unfolding left_number
   left_bound x = omega (arith, shrinks (chance_number (f.figure Married x)) (wid_number f interest t (f.figure SpouseAge x)) (chance_below Married x), wid_bound (f.figure SpouseAge x))
 
-  left_proper : (x : ℕ) → Proper (left f interest t backward x)
-  left_proper x = proper_mul (chance f Married x) (wid f interest t backward (f.figure SpouseAge x)) (omega arith) (wid_proper (f.figure SpouseAge x))
-
   pub widowed_stands : (b : Kind) (x : ℕ) → Stands (widowed_number f interest t b x) (widowed f interest t backward b x) 44652
   unfolding widowed_number
   widowed_stands b x = stands_product (chance_number (f.figure b x)) (left_number f interest t x) (chance f b x) (left f interest t backward x) 1 44530 121 (limited b x) (left_bound x) (chance_stands b x) (left_stands x)
@@ -139,9 +116,6 @@ module _ (f : Figures) (lawful : Lawful f) (interest t : ℕ) (some : 0 < t) (fe
   pub widowed_bound : (b : Kind) (x : ℕ) → widowed_number f interest t b x ≤ 121 * scale
   unfolding widowed_number
   widowed_bound b x = omega (arith, shrinks (chance_number (f.figure b x)) (left_number f interest t x) (chance_below b x), left_bound x)
-
-  pub widowed_proper : (b : Kind) (x : ℕ) → Proper (widowed f interest t backward b x)
-  widowed_proper b x = proper_mul (chance f b x) (left f interest t backward x) (omega arith) (left_proper x)
 
   -- the widows' pensions that a population leaves, of amount 1 a year
   exits_bound : (b : Kind) (x n k : ℕ) → n ≤ 121 → running (λ j. goes_on f interest t b (x + j)) (λ j. widowed_number f interest t b (x + j)) (λ _. scale) n k ≤ 121 * scale
@@ -156,22 +130,13 @@ module _ (f : Figures) (lawful : Lawful f) (interest t : ℕ) (some : 0 < t) (fe
   unfolding level_number
   widows_bound b x = exits_bound b x (121 - x) 0 (omega arith)
 
-  pub widows_proper : (b : Kind) (x : ℕ) → Proper (level f interest t backward b (widowed f interest t backward b) x)
-  widows_proper b x = level_proper b (widowed f interest t backward b) (widowed_proper b) x
-
   -- pensions
-  paid_proper : (p : Fraction) → Proper p → Proper (paid interest t p)
-  paid_proper p h = mul-pos (omega arith) (mul-pos (loss_proper interest t some) (mul-pos (omega arith) (proper_mul (discount interest) p (discount_proper interest) h)))
-
   pub pension_stands : (b : Kind) (x : ℕ) → Stands (pension_number f interest t b x) (pension f interest t backward b x) 32
   unfolding pension_number
-  pension_stands b x = stands_paid interest t (lives f b x) (goes_on f interest t b x) some few (lives_proper b x) (lives_small b x) (goes_below b x) (goes_stands b x)
-
-  pub pension_proper : (b : Kind) (x : ℕ) → Proper (pension f interest t backward b x)
-  pension_proper b x = paid_proper (lives f b x) (lives_proper b x)
+  pension_stands b x = stands_paid interest t (lives f b x) (goes_on f interest t b x) some few (lives_proper f b x) (lives_small b x) (goes_below b x) (goes_stands b x)
 
   pub pension_bound : (b : Kind) (x : ℕ) → pension_number f interest t b x ≤ scale
-  pension_bound b x = stands_small (pension_number f interest t b x) (pension f interest t backward b x) 32 (pension_proper b x) (omega arith) (pension_stands b x)
+  pension_bound b x = stands_small (pension_number f interest t b x) (pension f interest t backward b x) 32 (paid_proper interest t some (lives f b x) (lives_proper f b x)) (omega arith) (pension_stands b x)
 
   pub pensions_stands : (b : Kind) (x : ℕ) → Stands (level_number f interest t b (pension_number f interest t b) x) (level f interest t backward b (pension f interest t backward b) x) 47916
   pensions_stands b x = level_stands b (pension_number f interest t b) (pension f interest t backward b) 32 (pension_stands b) (ones_bound b (pension_number f interest t b) (pension_bound b)) x
@@ -180,36 +145,27 @@ module _ (f : Figures) (lawful : Lawful f) (interest t : ℕ) (some : 0 < t) (fe
   unfolding level_number
   pensions_bound b x = ones_bound b (pension_number f interest t b) (pension_bound b) x (121 - x) 0 (omega arith)
 
-  pub pensions_proper : (b : Kind) (x : ℕ) → Proper (level f interest t backward b (pension f interest t backward b) x)
-  pensions_proper b x = level_proper b (pension f interest t backward b) (pension_proper b) x
-
   -- actives
   stays_small : (x : ℕ) → (stays f x).num ≤ (stays f x).den
   stays_small x = omega arith
-
-  pub stays_proper : (x : ℕ) → Proper (stays f x)
-  stays_proper x = omega arith
 
   pub stays_stands : (x : ℕ) → Stands (stays_on f interest t x) (discount interest ⊗ stays f x) 3
   stays_stands x =
       let n = fixed (1000000 - f.figure Invalidity x - f.figure ActiveDeath x) 1000000 in
       let s = stands_opposites (f.figure Invalidity x) (f.figure ActiveDeath x) in
-      stands_discounted interest (stays f x) n (stays_small x) (stands_small n (stays f x) 1 (stays_proper x) (stays_small x) s) s
+      stands_discounted interest (stays f x) n (stays_small x) (stands_small n (stays f x) 1 (stays_proper f x) (stays_small x) s) s
 
   pub going_small : (x : ℕ) → (discount interest ⊗ stays f x).num ≤ (discount interest ⊗ stays f x).den
   going_small x = mul-le-mul (discount_small interest) (stays_small x)
 
   pub stays_below : (x : ℕ) → stays_on f interest t x ≤ scale
-  stays_below x = stands_small (stays_on f interest t x) (discount interest ⊗ stays f x) 3 (proper_mul (discount interest) (stays f x) (discount_proper interest) (stays_proper x)) (going_small x) (stays_stands x)
+  stays_below x = stands_small (stays_on f interest t x) (discount interest ⊗ stays f x) 3 (proper_mul (discount interest) (stays f x) (discount_proper interest) (stays_proper f x)) (going_small x) (stays_stands x)
 
   pub active_stands : (x : ℕ) → Stands (paid_number (kept_number interest t) (loss_number interest t) (stays_on f interest t x)) (paid interest t (stays f x)) 32
-  active_stands x = stands_paid interest t (stays f x) (stays_on f interest t x) some few (stays_proper x) (stays_small x) (stays_below x) (stays_stands x)
-
-  pub active_proper : (x : ℕ) → Proper (paid interest t (stays f x))
-  active_proper x = paid_proper (stays f x) (stays_proper x)
+  active_stands x = stands_paid interest t (stays f x) (stays_on f interest t x) some few (stays_proper f x) (stays_small x) (stays_below x) (stays_stands x)
 
   pub active_bound : (x : ℕ) → paid_number (kept_number interest t) (loss_number interest t) (stays_on f interest t x) ≤ scale
-  active_bound x = stands_small _ (paid interest t (stays f x)) 32 (active_proper x) (omega arith) (active_stands x)
+  active_bound x = stands_small _ (paid interest t (stays f x)) 32 (paid_proper interest t some (stays f x) (stays_proper f x)) (omega arith) (active_stands x)
 
   -- invalidity
   reassociated : (c v h a : Fraction) → c ⊗ ((v ⊗ h) ⊗ a) ≈ ((c ⊗ v) ⊗ h) ⊗ a
@@ -227,7 +183,7 @@ module _ (f : Figures) (lawful : Lawful f) (interest t : ℕ) (some : 0 < t) (fe
       let inner = stands_product n a (discount interest ⊗ half (chance f InvalidDeath x)) A 3 44044 121 (next_small InvalidDeath x) (annuity_bound InvalidDeath (x + 1)) (next_stands InvalidDeath x) (annuity_stands InvalidDeath (x + 1)) in
       let bound : product n a ≤ 121 * scale = omega (arith, shrinks n a (next_below InvalidDeath x), annuity_bound InvalidDeath (x + 1)) in
       stands_same (turning_invalid_number f interest t x) (chance f Invalidity x ⊗ ((discount interest ⊗ half (chance f InvalidDeath x)) ⊗ A)) _ 44530
-      (proper_mul (chance f Invalidity x) ((discount interest ⊗ half (chance f InvalidDeath x)) ⊗ A) (omega arith) (proper_mul (discount interest ⊗ half (chance f InvalidDeath x)) A (next_proper InvalidDeath x) (annuity_proper InvalidDeath (x + 1))))
+      (proper_mul (chance f Invalidity x) ((discount interest ⊗ half (chance f InvalidDeath x)) ⊗ A) (omega arith) (proper_mul (discount interest ⊗ half (chance f InvalidDeath x)) A (next_proper f lawful interest InvalidDeath x) (annuity_proper f lawful interest t some backward backward_proper InvalidDeath (x + 1))))
       (reassociated (chance f Invalidity x) (discount interest) (half (chance f InvalidDeath x)) A)
       (stands_product (chance_number (f.figure Invalidity x)) (product n a) (chance f Invalidity x) ((discount interest ⊗ half (chance f InvalidDeath x)) ⊗ A) 1 44408 121 (limited Invalidity x) bound (chance_stands Invalidity x) inner)
 
@@ -237,12 +193,6 @@ module _ (f : Figures) (lawful : Lawful f) (interest t : ℕ) (some : 0 < t) (fe
       let a = annuity_number f interest t InvalidDeath (x + 1) in
       let n = to_next_year f interest t InvalidDeath x in
       omega (arith, shrinks (chance_number (f.figure Invalidity x)) (product n a) (chance_below Invalidity x), shrinks n a (next_below InvalidDeath x), annuity_bound InvalidDeath (x + 1))
-
-  pub turning_proper : (x : ℕ) → Proper (turning_invalid f interest t backward x)
-  unfolding turning_invalid
-  turning_proper x = proper_mul (chance f Invalidity x ⊗ discount interest ⊗ half (chance f InvalidDeath x)) (annuity f interest t backward InvalidDeath (x + 1))
-      (proper_mul (chance f Invalidity x ⊗ discount interest) (half (chance f InvalidDeath x)) (proper_mul (chance f Invalidity x) (discount interest) (omega arith) (discount_proper interest)) (half_proper (f.figure InvalidDeath x) (limited InvalidDeath x)))
-      (annuity_proper InvalidDeath (x + 1))
 
   pub turning_widow_stands : (x : ℕ) → Stands (turning_invalid_widow_number f interest t x) (turning_invalid_widow f interest t backward x) 5492074
   unfolding turning_invalid_widow turning_invalid_widow_number
@@ -274,17 +224,6 @@ module _ (f : Figures) (lawful : Lawful f) (interest t : ℕ) (some : 0 < t) (fe
       let both : m ≤ 121 * scale = shares_year n (sooner_number q) w (left_number f interest t x) (121 * scale)
       (omega (arith, shrinks (discount_number interest) (half_number q) (discount_below interest), half_sooner q (limited InvalidDeath x))) (widows_bound InvalidDeath (x + 1)) (left_bound x) in
       omega (arith, shrinks (chance_number (f.figure Invalidity x)) m (chance_below Invalidity x))
-
-  pub turning_widow_proper : (x : ℕ) → Proper (turning_invalid_widow f interest t backward x)
-  unfolding turning_invalid_widow
-  turning_widow_proper x =
-      let h = half (chance f InvalidDeath x) in
-      let W = level f interest t backward InvalidDeath (widowed f interest t backward InvalidDeath) (x + 1) in
-      let h-proper = half_proper (f.figure InvalidDeath x) (limited InvalidDeath x) in
-      proper_mul (chance f Invalidity x) ((discount interest ⊗ h ⊗ W) ⊕ ((one ⊖ h) ⊗ left f interest t backward x)) (omega arith)
-      (proper_add (discount interest ⊗ h ⊗ W) ((one ⊖ h) ⊗ left f interest t backward x)
-      (proper_mul (discount interest ⊗ h) W (next_proper InvalidDeath x) (widows_proper InvalidDeath (x + 1)))
-      (proper_mul (one ⊖ h) (left f interest t backward x) (mul-pos (omega arith) h-proper) (left_proper x)))
 
   -- no value of amount 1 a year is above 121
   pub levels_bound : (b : Kind) (level : Level) (x : ℕ) → level_of f interest t b level x ≤ 121 * scale
