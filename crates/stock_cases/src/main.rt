@@ -5,7 +5,7 @@ use anyhow::{Context, anyhow};
 use basis::loading::Loading;
 use basis::shift::Shift;
 use basis::straight_line::StraightLine;
-use fault::{Fault, Place};
+use fault::Fault;
 use input::{Repeated, number, small_number};
 use pile::Pile;
 use pile::bottom::Bottom;
@@ -84,14 +84,13 @@ struct Worth {
     amounts: u64,
 }
 
-// What an answer has to be.
-#[derive(Clone, Copy)]
+// What an answer has to be. A fault is foretold as it is printed.
+#[derive(Drop)]
 enum Foretold {
     Done,
     Cents(Worth),
     Number(u64),
-    // by the number of its refusal, which the input has
-    Refused(u32, Place),
+    Refused(String),
 }
 
 #[derive(Drop)]
@@ -162,25 +161,20 @@ fn read_asked(rt: &HostRuntime, words: &mut SplitWhitespace<'_>) -> anyhow::Resu
     }
 }
 
-// `done`, `cents FLOOR CEILING PROMISES AMOUNTS`, `number N` or `refused NUMBER FIRST SECOND`.
-fn read_foretold(words: &mut SplitWhitespace<'_>) -> anyhow::Result<Foretold> {
-    match words.next() {
-        Some("done") => Ok(Foretold::Done),
-        Some("cents") => Ok(Foretold::Cents(Worth {
+// `done`, `cents FLOOR CEILING PROMISES AMOUNTS`, `number N` or `refused FAULT`.
+fn read_foretold(rt: &HostRuntime, text: &str) -> anyhow::Result<Foretold> {
+    let (name, rest) = text.split_once(' ').unwrap_or((text, ""));
+    let mut words = rest.split_whitespace();
+    match name {
+        "done" => Ok(Foretold::Done),
+        "cents" => Ok(Foretold::Cents(Worth {
             floor: number(words.next())?,
             ceiling: number(words.next())?,
             promises: small_number(words.next())?,
             amounts: number(words.next())?,
         })),
-        Some("number") => Ok(Foretold::Number(number(words.next())?)),
-        Some("refused") => {
-            let number = small_number(words.next())?;
-            let place = Place {
-                first: small_number(words.next())?,
-                second: small_number(words.next())?,
-            };
-            Ok(Foretold::Refused(number, place))
-        }
+        "number" => Ok(Foretold::Number(number(words.next())?)),
+        "refused" => Ok(Foretold::Refused(format!(in rt.alloc(); "{rest}")?)),
         _ => Err(anyhow!("no such answer")),
     }
 }
@@ -190,7 +184,7 @@ fn read_row(rt: &HostRuntime, line: usize, text: &str) -> anyhow::Result<Row> {
     let (foretold, asked) = text.split_once('|').context("no bar")?;
     Ok(Row {
         line,
-        foretold: read_foretold(&mut foretold.split_whitespace())?,
+        foretold: read_foretold(rt, foretold.trim())?,
         asked: read_asked(rt, &mut asked.split_whitespace())?,
     })
 }
@@ -249,15 +243,15 @@ impl Worth {
 }
 
 impl Foretold {
-    fn holds(self, answer: Result<Answer, Fault>) -> bool {
+    fn holds(&self, rt: &HostRuntime, answer: Result<Answer, Fault>) -> anyhow::Result<bool> {
         match (self, answer) {
-            (Foretold::Done, Ok(Answer::Done)) => true,
-            (Foretold::Cents(worth), Ok(Answer::Cents(pair))) => worth.lies_in(pair),
-            (Foretold::Number(foretold), Ok(Answer::Number(number))) => number == foretold,
-            (Foretold::Refused(number, place), Err(fault)) => {
-                fault.refusal.number() as u32 == number && fault.place == place
+            (Foretold::Done, Ok(Answer::Done)) => Ok(true),
+            (Foretold::Cents(worth), Ok(Answer::Cents(pair))) => Ok(worth.lies_in(pair)),
+            (Foretold::Number(foretold), Ok(Answer::Number(number))) => Ok(number == *foretold),
+            (Foretold::Refused(foretold), Err(fault)) => {
+                Ok(format!(in rt.alloc(); "{fault}")?.as_str() == foretold.as_str())
             }
-            _ => false,
+            _ => Ok(false),
         }
     }
 }
@@ -294,7 +288,7 @@ impl Report {
         row: &Row,
         answer: Result<Answer, Fault>,
     ) -> anyhow::Result<()> {
-        let held = row.foretold.holds(answer);
+        let held = row.foretold.holds(rt, answer)?;
         let tally = &mut self.tallies[row.asked.kind() as usize];
         tally.granted = tally.granted.wrapping_add(answer.is_ok() as u32);
         tally.refused = tally.refused.wrapping_add(answer.is_err() as u32);

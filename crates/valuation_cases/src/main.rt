@@ -5,7 +5,7 @@ use anyhow::{Context, anyhow};
 use basis::loading::Loading;
 use basis::shift::Shift;
 use basis::straight_line::StraightLine;
-use fault::{Fault, Place};
+use fault::Fault;
 use input::{Repeated, number, small_number};
 use pile::Pile;
 use pile::bottom::Bottom;
@@ -158,25 +158,23 @@ impl Report {
         Ok(())
     }
 
-    // A row that has to be refused, with the place of its fault and the refusal's number, which the input has.
+    // A row that has to be refused: what is asked, a bar, and the fault as it is printed.
     fn hold_fault(
         &mut self,
         rt: &HostRuntime,
         line: usize,
         pile: &Pile,
-        words: &mut SplitWhitespace<'_>,
+        text: &str,
     ) -> anyhow::Result<()> {
-        let question = read_question(words)?;
-        let number = small_number(words.next())?;
-        let foretold = Place {
-            first: small_number(words.next())?,
-            second: small_number(words.next())?,
-        };
-        let amounts = read_amounts(rt, words)?;
+        let (asked, foretold) = text.split_once('|').context("no bar")?;
+        let mut words = asked.split_whitespace();
+        let _name = words.next();
+        let question = read_question(&mut words)?;
+        let amounts = read_amounts(rt, &mut words)?;
         match value_on(pile, question, amounts.as_slice()) {
             Ok(pair) => println!(rt; "line {line}: {pair}")?,
             Err(fault) => {
-                if fault.refusal.number() as u32 == number && fault.place == foretold {
+                if format!(in rt.alloc(); "{fault}")?.as_str() == foretold.trim() {
                     self.refused = self.refused.wrapping_add(1);
                 } else {
                     println!(rt; "line {line}: refused {fault}")?;
@@ -217,7 +215,7 @@ fn main(rt: HostRuntime) -> anyhow::Result<()> {
         match words.next() {
             Some("basis") => pile = read_pile(&rt, &mut words)?,
             Some("row") => report.hold_row(&rt, before + 1, &pile, &mut words)?,
-            Some("fault") => report.hold_fault(&rt, before + 1, &pile, &mut words)?,
+            Some("fault") => report.hold_fault(&rt, before + 1, &pile, text.as_str())?,
             _ => return Err(anyhow!("no such line")),
         }
     }
