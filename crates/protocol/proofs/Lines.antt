@@ -20,7 +20,7 @@ pub found_end : (p : ℕ → Bool) (xs : List ℕ) → unwrap_or (position p xs)
 found_end p xs = found_by p xs (ltb (position_or_len p xs) (length xs)) refl
 
 -- blanks before a word
-words_more : (line : List ℕ) (i : ℕ) → i < length line → words (drop i line) ≡ words line → blank (get_or line i 0) ≡ true → words (drop (i + 1) line) ≡ words line
+pub words_more : (line : List ℕ) (i : ℕ) → i < length line → words (drop i line) ≡ words line → blank (get_or line i 0) ≡ true → words (drop (i + 1) line) ≡ words line
 unfolding words
 words_more line i inside before here =
     sym (at_drop_more words line i 0 inside ∙ ap (λ t. cond t (words (drop (i + 1) line)) (cond (goes_on (drop (i + 1) line)) (in_front (get_or line i 0) (words (drop (i + 1) line))) ((get_or line i 0 ∷ []) ∷ words (drop (i + 1) line)))) here) ∙ before
@@ -56,7 +56,7 @@ dark_word b bs dark = ap (λ t. cond t (words bs) (cond (goes_on bs) (in_front b
 going : (b : ℕ) (bs : List ℕ) → blank b ≡ false → goes_on (b ∷ bs) ≡ true
 going b bs dark = ap (λ t. cond t false true) dark
 
-first_word : (line : List ℕ) (n : ℕ) → 0 < n → n ≤ length line → ((i : ℕ) → i < n → blank (get_or line i 0) ≡ false) → goes_on (drop n line) ≡ false → words line ≡ take n line ∷ words (drop n line)
+pub first_word : (line : List ℕ) (n : ℕ) → 0 < n → n ≤ length line → ((i : ℕ) → i < n → blank (get_or line i 0) ≡ false) → goes_on (drop n line) ≡ false → words line ≡ take n line ∷ words (drop n line)
 first_word [] n some inside dark end = absurd (omega arith)
 first_word (b ∷ bs) zero some inside dark end = absurd (omega arith)
 first_word (b ∷ bs) (suc zero) some inside dark end = dark_word b bs (dark 0 (omega arith)) ∙ ap (λ t. cond t (in_front b (words bs)) ((b ∷ []) ∷ words bs)) end
@@ -66,7 +66,7 @@ first_word (b ∷ c ∷ cs) (suc (suc n)) some inside dark end =
     ∙ ap (λ t. cond t (in_front b (words (c ∷ cs))) ((b ∷ []) ∷ words (c ∷ cs))) (going c cs (dark 1 (omega arith)))
     ∙ ap (in_front b) (first_word (c ∷ cs) (suc n) (omega arith) (omega arith) (λ i l. dark (suc i) (omega arith)) end)
 
-ends_here : (line : List ℕ) (n : ℕ) → (n < length line → blank (get_or line n 0) ≡ true) → goes_on (drop n line) ≡ false
+pub ends_here : (line : List ℕ) (n : ℕ) → (n < length line → blank (get_or line n 0) ≡ true) → goes_on (drop n line) ≡ false
 ends_here [] zero h = refl
 ends_here [] (suc n) h = refl
 ends_here (b ∷ bs) zero h = ap (λ t. cond t false true) (h (omega arith))

@@ -5,7 +5,7 @@ use anyhow::{Context, anyhow};
 use basis::loading::Loading;
 use basis::shift::Shift;
 use basis::straight_line::StraightLine;
-use fault::Fault;
+use fault::{Fault, Place};
 use input::{Repeated, number, small_number};
 use pile::Pile;
 use pile::bottom::Bottom;
@@ -19,6 +19,9 @@ use valuation::benefit::Benefit;
 use valuation::pair::Pair;
 use valuation::promise::Promise;
 use valuation::terms::Terms;
+
+// The numbers of lines, which have 32 bits: past the last they begin again at 0.
+const LINE_NUMBERS: usize = 1 << 32;
 
 // A promise of the input, and the length of the column that is lent for it.
 #[derive(Drop)]
@@ -84,13 +87,14 @@ struct Worth {
     amounts: u64,
 }
 
-// What an answer has to be. A fault is foretold as it is printed.
-#[derive(Drop)]
+// What an answer has to be.
+#[derive(Clone, Copy)]
 enum Foretold {
     Done,
     Cents(Worth),
     Number(u64),
-    Refused(String),
+    // a fault's number and place: its part has to be the number's own
+    Refused(u32, Place),
 }
 
 #[derive(Drop)]
@@ -161,20 +165,23 @@ fn read_asked(rt: &HostRuntime, words: &mut SplitWhitespace<'_>) -> anyhow::Resu
     }
 }
 
-// `done`, `cents FLOOR CEILING PROMISES AMOUNTS`, `number N` or `refused FAULT`.
-fn read_foretold(rt: &HostRuntime, text: &str) -> anyhow::Result<Foretold> {
-    let (name, rest) = text.split_once(' ').unwrap_or((text, ""));
-    let mut words = rest.split_whitespace();
-    match name {
-        "done" => Ok(Foretold::Done),
-        "cents" => Ok(Foretold::Cents(Worth {
+// `done`, `cents FLOOR CEILING PROMISES AMOUNTS`, `number N` or `refused NUMBER FIRST SECOND`.
+fn read_foretold(words: &mut SplitWhitespace<'_>) -> anyhow::Result<Foretold> {
+    match words.next() {
+        Some("done") => Ok(Foretold::Done),
+        Some("cents") => Ok(Foretold::Cents(Worth {
             floor: number(words.next())?,
             ceiling: number(words.next())?,
             promises: small_number(words.next())?,
             amounts: number(words.next())?,
         })),
-        "number" => Ok(Foretold::Number(number(words.next())?)),
-        "refused" => Ok(Foretold::Refused(format!(in rt.alloc(); "{rest}")?)),
+        Some("number") => Ok(Foretold::Number(number(words.next())?)),
+        Some("refused") => {
+            let number = small_number(words.next())?;
+            let first = small_number(words.next())?;
+            let second = small_number(words.next())?;
+            Ok(Foretold::Refused(number, Place { first, second }))
+        }
         _ => Err(anyhow!("no such answer")),
     }
 }
@@ -184,7 +191,7 @@ fn read_row(rt: &HostRuntime, line: usize, text: &str) -> anyhow::Result<Row> {
     let (foretold, asked) = text.split_once('|').context("no bar")?;
     Ok(Row {
         line,
-        foretold: read_foretold(rt, foretold.trim())?,
+        foretold: read_foretold(&mut foretold.split_whitespace())?,
         asked: read_asked(rt, &mut asked.split_whitespace())?,
     })
 }
@@ -243,15 +250,16 @@ impl Worth {
 }
 
 impl Foretold {
-    fn holds(&self, rt: &HostRuntime, answer: Result<Answer, Fault>) -> anyhow::Result<bool> {
+    fn holds(self, answer: Result<Answer, Fault>) -> bool {
         match (self, answer) {
-            (Foretold::Done, Ok(Answer::Done)) => Ok(true),
-            (Foretold::Cents(worth), Ok(Answer::Cents(pair))) => Ok(worth.lies_in(pair)),
-            (Foretold::Number(foretold), Ok(Answer::Number(number))) => Ok(number == *foretold),
-            (Foretold::Refused(foretold), Err(fault)) => {
-                Ok(format!(in rt.alloc(); "{fault}")?.as_str() == foretold.as_str())
+            (Foretold::Done, Ok(Answer::Done)) => true,
+            (Foretold::Cents(worth), Ok(Answer::Cents(pair))) => worth.lies_in(pair),
+            (Foretold::Number(foretold), Ok(Answer::Number(number))) => number == foretold,
+            (Foretold::Refused(number, Place { first, second }), Err(fault)) => {
+                fault.refusal.number() as u32 == number
+                    && fault == Fault::new(fault.refusal, first, second)
             }
-            _ => Ok(false),
+            _ => false,
         }
     }
 }
@@ -288,7 +296,7 @@ impl Report {
         row: &Row,
         answer: Result<Answer, Fault>,
     ) -> anyhow::Result<()> {
-        let held = row.foretold.holds(rt, answer)?;
+        let held = row.foretold.holds(answer);
         let tally = &mut self.tallies[row.asked.kind() as usize];
         tally.granted = tally.granted.wrapping_add(answer.is_ok() as u32);
         tally.refused = tally.refused.wrapping_add(answer.is_err() as u32);
@@ -370,6 +378,7 @@ fn main(rt: HostRuntime) -> anyhow::Result<()> {
         .enumerate()
     {
         let text = text?;
+        let line = (before + 1) % LINE_NUMBERS;
         if text.as_str().starts_with('#') {
             continue;
         }
@@ -379,7 +388,7 @@ fn main(rt: HostRuntime) -> anyhow::Result<()> {
             let final_age = small_number(words.next())?;
             session = Session::new(&rt, final_age, small_number(words.next())?)?;
         } else {
-            session.read(&rt, before + 1, text.as_str())?;
+            session.read(&rt, line, text.as_str())?;
         }
     }
     session.play(&rt, &mut report)?;

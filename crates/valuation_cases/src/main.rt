@@ -20,6 +20,9 @@ use valuation::promise::Promise;
 use valuation::terms::Terms;
 use valuation::value::value;
 
+// The numbers of lines, which have 32 bits: past the last they begin again at 0.
+const LINE_NUMBERS: usize = 1 << 32;
+
 // What a row asks, but for the yearly amounts.
 #[derive(Clone, Copy)]
 struct Question {
@@ -158,23 +161,25 @@ impl Report {
         Ok(())
     }
 
-    // A row that has to be refused: what is asked, a bar, and the fault as it is printed.
+    // A row that has to be refused, with the number and the place of its fault, whose part has to be the number's own.
     fn hold_fault(
         &mut self,
         rt: &HostRuntime,
         line: usize,
         pile: &Pile,
-        text: &str,
+        words: &mut SplitWhitespace<'_>,
     ) -> anyhow::Result<()> {
-        let (asked, foretold) = text.split_once('|').context("no bar")?;
-        let mut words = asked.split_whitespace();
-        let _name = words.next();
-        let question = read_question(&mut words)?;
-        let amounts = read_amounts(rt, &mut words)?;
+        let question = read_question(words)?;
+        let number = small_number(words.next())?;
+        let first = small_number(words.next())?;
+        let second = small_number(words.next())?;
+        let amounts = read_amounts(rt, words)?;
         match value_on(pile, question, amounts.as_slice()) {
             Ok(pair) => println!(rt; "line {line}: {pair}")?,
             Err(fault) => {
-                if format!(in rt.alloc(); "{fault}")?.as_str() == foretold.trim() {
+                if fault.refusal.number() as u32 == number
+                    && fault == Fault::new(fault.refusal, first, second)
+                {
                     self.refused = self.refused.wrapping_add(1);
                 } else {
                     println!(rt; "line {line}: refused {fault}")?;
@@ -208,14 +213,15 @@ fn main(rt: HostRuntime) -> anyhow::Result<()> {
     let mut pile = Pile::on(rt.alloc(), Bottom::Table(Table::new()));
     for (before, text) in rt.lines(rt.alloc()).enumerate() {
         let text = text?;
+        let line = (before + 1) % LINE_NUMBERS;
         if text.as_str().starts_with('#') {
             continue;
         }
         let mut words = text.as_str().split_whitespace();
         match words.next() {
             Some("basis") => pile = read_pile(&rt, &mut words)?,
-            Some("row") => report.hold_row(&rt, before + 1, &pile, &mut words)?,
-            Some("fault") => report.hold_fault(&rt, before + 1, &pile, text.as_str())?,
+            Some("row") => report.hold_row(&rt, line, &pile, &mut words)?,
+            Some("fault") => report.hold_fault(&rt, line, &pile, &mut words)?,
             _ => return Err(anyhow!("no such line")),
         }
     }
