@@ -97,10 +97,10 @@ module _ (f : Figures) (lawful : Lawful f) (interest t : ℕ) (some : 0 < t) (su
   left_proper : (x : ℕ) → Proper (left f interest t sum x)
   left_proper x = proper_mul (chance f Married x) (wid f interest t sum (f.figure SpouseAge x)) (omega arith) (wid_proper (f.figure SpouseAge x))
 
-  pension_proper : (b : Kind) (x : ℕ) → Proper (pension f interest t sum b x)
+  pub pension_proper : (b : Kind) (x : ℕ) → Proper (pension f interest t sum b x)
   pension_proper b x = paid_proper interest t some (lives f b x) (lives_proper f b x)
 
-  widowed_proper : (b : Kind) (x : ℕ) → Proper (widowed f interest t sum b x)
+  pub widowed_proper : (b : Kind) (x : ℕ) → Proper (widowed f interest t sum b x)
   widowed_proper b x = proper_mul (chance f b x) (left f interest t sum x) (omega arith) (left_proper x)
 
   retiring_proper : Proper (retiring f interest t sum)
@@ -111,13 +111,13 @@ module _ (f : Figures) (lawful : Lawful f) (interest t : ℕ) (some : 0 < t) (su
   unfolding retiring_widow
   retiring_widow_proper = level_proper PopulationDeath (widowed f interest t sum PopulationDeath) (widowed_proper PopulationDeath) f.final_age
 
-  turning_proper : (x : ℕ) → Proper (turning_invalid f interest t sum x)
+  pub turning_proper : (x : ℕ) → Proper (turning_invalid f interest t sum x)
   unfolding turning_invalid
   turning_proper x = proper_mul (chance f Invalidity x ⊗ discount interest ⊗ half (chance f InvalidDeath x)) (annuity f interest t sum InvalidDeath (x + 1))
       (proper_mul (chance f Invalidity x ⊗ discount interest) (half (chance f InvalidDeath x)) (proper_mul (chance f Invalidity x) (discount interest) (omega arith) (discount_proper interest)) (chance_half_proper f lawful InvalidDeath x))
       (annuity_proper InvalidDeath (x + 1))
 
-  turning_widow_proper : (x : ℕ) → Proper (turning_invalid_widow f interest t sum x)
+  pub turning_widow_proper : (x : ℕ) → Proper (turning_invalid_widow f interest t sum x)
   unfolding turning_invalid_widow
   turning_widow_proper x =
       let h = half (chance f InvalidDeath x) in
