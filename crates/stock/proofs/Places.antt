@@ -1,12 +1,12 @@
 -- The places of a stock, as they are searched and changed. Assumes nothing.
 use Rattle.std.proofs.Common.{◌≡◌, ℕ, zero, suc, ◌+◌, ◌-◌, ◌*◌, ◌<◌, ◌≤◌, Bool, true, false, cond, not, eqb, ltb, List, [], ◌∷◌, length, get_or, set, remove, position, is_some, is_none, Some, None, MatchOption, ok_or, sum_by, count_by, Option, sym, refl, ap, ◌∙◌, subst, arith}
 use Rattle.std.specs.List.{position_or_len}
-use Rattle.std.proofs.lemmas.Bool.{cond-false, true≢false, false≢true, eqb-true, eq-eqb, ne_eqb, ltb-false}
+use Rattle.std.proofs.lemmas.Bool.{cond-false, cond-true, true≢false, false≢true, eqb-true, eq-eqb, ne_eqb, ltb-false, lt-ltb, le-ltb}
 use Rattle.std.proofs.lemmas.List.{length-set}
 use Rattle.std.proofs.lemmas.List.Edits.{length-remove}
 use Rattle.std.proofs.lemmas.List.Quantifiers.{position-Some}
 use Rattle.std.proofs.lemmas.List.Recursion.{found_at, found_nowhere}
-use Rattle.std.proofs.lemmas.List.Sums.{sum_by-cons, sum_by-set, sum_by-remove, sum_by-le, get_or-le-sum_by, count_by-le-length, fails_before_first}
+use Rattle.std.proofs.lemmas.List.Sums.{sum_by-cons, sum_by-set, sum_by-remove, sum_by-le, get_or-le-sum_by, count_by-le-length, fails_before_first, prefix_len_is}
 use Rattle.fault.specs.declared.Refusal.TheVariants.{Known, Unknown, Full}
 use Rattle.fault.specs.Faults.{fault, refuse_if, first_of, Outcome}
 use Rattle.valuation.specs.declared.pair.Pair.{Pair}
@@ -25,6 +25,17 @@ none_passes p rs none k inside = step (ltb (position_or_len p rs) (length rs)) r
     step : (t : Bool) → ltb (position_or_len p rs) (length rs) ≡ t → cond t (Some (position_or_len p rs)) None ≡ None → p (get_or rs k None) ≡ false
     step true e h = absurd (true≢false (ap is_some h))
     step false e h = fails_before_first p rs k None (omega (arith, ltb-false _ _ e))
+
+-- a place that passes is the first if all before it fail, and if all fail there is none
+pub first_at : (p : Option Record → Bool) (rs : List (Option Record)) (i : ℕ) → i < length rs → p (get_or rs i None) ≡ true → ((k : ℕ) → k < i → p (get_or rs k None) ≡ false) → Some i ≡ position p rs
+first_at p rs i inside passes before =
+    let at : position_or_len p rs ≡ i = prefix_len_is (λ r. not (p r)) rs i None (omega arith) (λ k l. ap not (before k l)) (λ l. ap not passes) in
+    sym (ap (λ n. cond (ltb n (length rs)) (Some n) None) at ∙ cond-true (ltb i (length rs)) (Some i) None (lt-ltb i (length rs) inside))
+
+pub first_nowhere : (p : Option Record → Bool) (rs : List (Option Record)) → ((k : ℕ) → k < length rs → p (get_or rs k None) ≡ false) → None ≡ position p rs
+first_nowhere p rs fail =
+    let at : position_or_len p rs ≡ length rs = prefix_len_is (λ r. not (p r)) rs (length rs) None (omega arith) (λ k l. ap not (fail k l)) (λ l. absurd (omega arith)) in
+    sym (ap (λ n. cond (ltb n (length rs)) (Some n) None) at ∙ cond-false (ltb (length rs) (length rs)) (Some (length rs)) None (le-ltb (length rs) (length rs) (omega arith)))
 
 -- a place that has a key has its pair
 pub filled : (key : ℕ) (r : Option Record) → has_key key r ≡ true → is_some (pair_in r) ≡ true

@@ -19,7 +19,6 @@ impl<B: Basis> Stock<B> {
     pub fn play(&mut self, call: Call<'_>) -> Result<Answer, Fault>
         ensures { Answered B.figures self.old self.new (told call.entry) result (AnswerIn B.figures self.old (told call.entry)) }
     {
-        let mut places = [0u64; LEAST_COLUMN];
         match call {
             Call::Total => Ok(Answer::Cents(self.total())),
             Call::Count => Ok(Answer::Number(self.count())),
@@ -29,10 +28,12 @@ impl<B: Basis> Stock<B> {
                 Ok(Answer::Done)
             }
             Call::Admit(key, promise, column) => {
+                let mut places = [0u64; LEAST_COLUMN];
                 self.admit(key, promise, &mut places[..column.min(LEAST_COLUMN)])?;
                 Ok(Answer::Done)
             }
             Call::Amend(key, promise, column) => {
+                let mut places = [0u64; LEAST_COLUMN];
                 self.amend(key, promise, &mut places[..column.min(LEAST_COLUMN)])?;
                 Ok(Answer::Done)
             }
