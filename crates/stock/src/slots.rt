@@ -59,8 +59,8 @@ impl Slots {
         self.count = self.count - u64::from(old.is_some()) + u64::from(new.is_some());
     }
 
-    // The place of a key, if it has one. A loop, since the iterator's `position` takes twice as long over a full stock,
-    // whichever closure it has.
+    // The place of a key, if it has one. A loop with its test by name: the iterator's `position` takes nearly twice as long
+    // over a full stock, with each closure that was tried, and so does a loop with an `if let`.
     fn place_of(&self, key: u32) -> Option<usize>
         ensures { result ≡ position (has_key key) self.now.records }
     {

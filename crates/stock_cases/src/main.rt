@@ -93,7 +93,7 @@ enum Foretold {
     Done,
     Cents(Worth),
     Number(u64),
-    // a fault's number, as rows have always told it, and its place: its part has to be the number's own
+    // a fault's number, since what rows say may not change, and its place: its part has to be the number's own
     Refused(u32, Place),
 }
 

@@ -161,8 +161,8 @@ impl Report {
         Ok(())
     }
 
-    // A row that has to be refused, with its fault's number, as rows have always told it, and place. The part of the fault has
-    // to be the number's own.
+    // A row that has to be refused, with its fault's number, since what rows say may not change, and place. The part of the
+    // fault has to be the number's own.
     fn hold_fault(
         &mut self,
         rt: &HostRuntime,
